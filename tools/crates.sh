@@ -1,6 +1,6 @@
-# What prove.sh, c.sh, cases.sh, bench.sh, iasl.sh, limits.sh and memory.sh share: how crates of crates.txt are proved and built.
-# Sourced from the root. Crates that don't depend on each other are proved side by side: as many at a time as there are processors,
-# at most four, and 3 GB of free memory for each. JOBS says how many instead.
+# What prove.sh, c.sh, cases.sh, bench.sh, iasl.sh, limits.sh, memory.sh and rewrite.sh share: how crates of crates.txt are
+# proved and built. Sourced from the root. Crates that don't depend on each other are proved side by side: as many at a time
+# as there are processors, at most four, and 3 GB of free memory for each. JOBS says how many instead.
 
 work=$(mktemp -d)
 running=
@@ -91,7 +91,7 @@ begin() {
     acpitool) set -- run --jobs 1 -- --version ;;
     test_bench) set -- run --jobs 1 -- xsdt=2 ;;
     test_limits) set -- run --jobs 1 -- VIOT ;;
-    test_memory | test_cases) set -- run --jobs 1 ;;
+    test_memory | test_cases | test_rewrite) set -- run --jobs 1 ;;
     *) set -- lib --jobs 1 ;;
     esac
     folder=$PWD/out/$crate

@@ -66,8 +66,8 @@ enum hyssop_fault {
     HYSSOP_FAULT_IMAGE_LENGTH = 50, /* the length of a table is wrong */
     HYSSOP_FAULT_IMAGE_REVISION = 51, /* the revision of the RSDP isn't 2 */
     HYSSOP_FAULT_IMAGE_SUM = 52, /* the bytes of a table in the image don't sum to zero */
-    HYSSOP_FAULT_IMAGE_ENTRIES = 53, /* the XSDT doesn't end after a whole entry */
-    HYSSOP_FAULT_IMAGE_NO_FADT = 54, /* the XSDT lists no FADT */
+    HYSSOP_FAULT_IMAGE_ENTRIES = 53, /* the list of tables doesn't end after a whole entry */
+    HYSSOP_FAULT_IMAGE_NO_FADT = 54, /* no FADT is listed */
     HYSSOP_FAULT_IMAGE_SECOND_FADT = 55, /* the XSDT lists a second FADT */
     HYSSOP_FAULT_IMAGE_OVERLAP = 56, /* two tables overlap */
     HYSSOP_FAULT_LAY_BASE = 57, /* the address of an image isn't a multiple of 64 */

@@ -215,3 +215,22 @@ memory_tables =
     ∷ only_read "MRRM" "Memory Range and Region Mapping Structure (MRRM)" (one_kind "Memory Range Entry")
     ∷ only_read "ERDT" "Enhanced Resource Director Technology Table (ERDT)" []
     ∷ []
+
+-- ---- tables without a standard header
+
+abbrev pub cdat_names : Named
+cdat_names =
+    only_read "" "Coherent Device Attribute Table (CDAT)" (
+    (0, codes "Device Scoped Memory Affinity Structure (DSMAS)")
+    ∷ (1, codes "Device Scoped Latency and Bandwidth Information Structure (DSLBIS)")
+    ∷ (2, codes "Device Scoped Memory Side Cache Information Structure (DSMSCIS)")
+    ∷ (3, codes "Device Scoped Initiator Structure (DSIS)")
+    ∷ (4, codes "Device Scoped EFI Memory Type Structure (DSEMTS)")
+    ∷ (5, codes "Switch Scoped Latency and Bandwidth Information Structure (SSLBIS)")
+    ∷ []
+    )
+
+abbrev pub s3pt_names : Named
+s3pt_names =
+    only_read "S3PT" "S3 Performance Table (S3PT)"
+    ((0, codes "S3 Resume Performance Record") ∷ (1, codes "S3 Suspend Performance Record") ∷ [])

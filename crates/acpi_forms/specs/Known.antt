@@ -6,9 +6,14 @@ use Rattle.acpi_base.specs.Bytes.{carried}
 use Rattle.acpi_base.specs.Walk.{named}
 use Rattle.acpi_forms.specs.Named.{names_of, unknown}
 
--- whether a signature, which is given as a number, is that of the pointer or of a table that has a name
+-- whether a signature, which is given as a number, is that of the pointer, of a table without a standard header (CDAT has no
+-- other signature than its name), or of a table that has a name
 abbrev pub has_form : ℕ → Bool
-has_form signature = signature == named (codes "RSD ") || not (bytes_eq (names_of signature).name unknown.name)
+has_form signature =
+    signature == named (codes "RSD ")
+    || signature == named (codes "CDAT")
+    || signature == named (codes "S3PT")
+    || not (bytes_eq (names_of signature).name unknown.name)
 
 -- whether a text is such a signature
 abbrev pub is_known : List ℕ → Bool

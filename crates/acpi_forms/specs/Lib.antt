@@ -8,6 +8,7 @@ pub mod ArmForms
 pub mod Written
 pub mod Name
 pub mod FurtherNames
+pub mod Walks
 pub mod Named
 pub mod Shows
 pub mod Kind

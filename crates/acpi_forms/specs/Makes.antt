@@ -1,5 +1,5 @@
 -- What texts are made into.
-use Rattle.std.specs.Prelude.{◌≡◌, ℕ, ◌==◌, not, Bool, true, false, if◌then◌else◌, List, length, codes, Option, Some}
+use Rattle.std.specs.Prelude.{◌≡◌, ℕ, ◌==◌, ◌&&◌, not, Bool, true, false, if◌then◌else◌, List, [], length, codes, Option, Some}
 use Rattle.std.specs.Prelude.{None, Result, Ok, Err}
 use Rattle.acpi_base.specs.Bytes.{carried}
 use Rattle.acpi_base.specs.Walk.{named}
@@ -8,10 +8,10 @@ use Rattle.acpi_base.specs.declared.walk.Walk.{Walk}
 use Rattle.acpi_make.specs.Gives.{Gives}
 use Rattle.acpi_make.specs.Made.{type_place, made, table_of}
 use Rattle.acpi_make.specs.Meaning.{parts_of}
-use Rattle.acpi_make.specs.Signature.{signature_of}
+use Rattle.acpi_make.specs.Signature.{signature_of, begins_with_length, has_line}
 use Rattle.acpi_make.specs.Template.{template_text}
 use Rattle.acpi_make.specs.declared.file_kind.FileKind.{FileKind}
-use Rattle.acpi_make.specs.declared.file_kind.FileKind.TheVariants.{Table, Rsdp, Facs}
+use Rattle.acpi_make.specs.declared.file_kind.FileKind.TheVariants.{Table, Rsdp, Facs, Cdat, S3pt}
 use Rattle.acpi_make.specs.Fault.{Fault, fault}
 use Rattle.acpi_make.specs.Item.{cells_of}
 use Rattle.acpi_make.specs.Source.{Source}
@@ -21,26 +21,44 @@ use Rattle.acpi_make.specs.declared.fault.Wanted.TheVariants as wanted
 use Rattle.acpi_make.specs.declared.item.Item.{Item}
 use Rattle.acpi_make.specs.declared.make.Made.{Made}
 use Rattle.acpi_text.specs.declared.form.TableForm.{TableForm}
+use Rattle.acpi_forms.specs.FurtherNames.{cdat_names, s3pt_names}
 use Rattle.acpi_forms.specs.Named.{Named, IsNamed, names_of, rsdp_names, facs_names}
+use Rattle.acpi_forms.specs.Walks.{cdat_walk, s3pt_walk}
 
 -- ---- the form, the kind of file, the form and the walk of a signature
 
--- a pointer (ACPI 6.5, 5.2.5.3), a control structure (5.2.10), or a table with the standard header (5.2.6)
+-- a pointer (ACPI 6.5, 5.2.5.3), a control structure (5.2.10), a table of S3 performance (5.2.24), or a table with the standard
+-- header (5.2.6)
 abbrev pub file_kind_of : ℕ → FileKind
 file_kind_of signature =
     if signature == named (codes "RSD ") then Rsdp
     else (if signature == named (codes "FACS") then Facs
-    else Table)
+    else (if signature == named (codes "S3PT") then S3pt
+    else Table))
+
+-- The same of a text. One whose first field is a length, and that has a sequence, has no signature: it is a table of coherent
+-- devices (CDAT 1.03).
+abbrev pub text_kind : List ℕ → List Item → ℕ → FileKind
+text_kind text parts signature =
+    if begins_with_length text parts && has_line (codes "Sequence") text parts then Cdat else file_kind_of signature
+
+-- the same of the signature of a template, where CDAT stands for the table without one
+abbrev pub template_kind : ℕ → FileKind
+template_kind signature = if signature == named (codes "CDAT") then Cdat else file_kind_of signature
 
 abbrev pub names_by : FileKind → ℕ → Named
 names_by Table signature = names_of signature
 names_by Rsdp signature = rsdp_names
 names_by Facs signature = facs_names
+names_by Cdat signature = cdat_names
+names_by S3pt signature = s3pt_names
 
 abbrev pub walk_by : FileKind → ℕ → Option Walk
 walk_by Table signature = table_walk_of signature
 walk_by Rsdp signature = None
 walk_by Facs signature = None
+walk_by Cdat signature = Some cdat_walk
+walk_by S3pt signature = Some s3pt_walk
 
 -- a text whose signature isn't stated has that of no table
 abbrev pub signature_or_none : Option ℕ → ℕ
@@ -60,8 +78,8 @@ pub record IsMadeBy (names : Named) (walk : Option Walk) (file_kind : FileKind) 
 
 abbrev pub IsMadeAs : ℕ → List ℕ → List Item → Result Made MakeError → Type 0
 IsMadeAs signature text parts result =
-    IsMadeBy (names_by (file_kind_of signature) signature) (walk_by (file_kind_of signature) signature)
-    (file_kind_of signature) text parts result
+    let kind = text_kind text parts signature in
+    IsMadeBy (names_by kind signature) (walk_by kind signature) kind text parts result
 
 abbrev pub IsRefused : Fault → Result Made MakeError → Type 0
 IsRefused wrong result = Gives {B = Made} (λ made. made) result (Err wrong)
@@ -71,7 +89,7 @@ abbrev pub IsMadeIf : Bool → List Item → List ℕ → Result Made MakeError 
 IsMadeIf true parts text result = IsMadeAs (signature_or_none (signature_of parts)) text parts result
 IsMadeIf false parts text result = IsRefused (fault 0 0 wanted.Table) result
 
--- by the signature of the text; one that isn't read has the fault of its reading
+-- by the kind of the text and its signature; one that isn't read has the fault of its reading
 abbrev pub IsMadeOf : Result (List Item) Fault → List ℕ → Result Made MakeError → Type 0
 IsMadeOf (Ok parts) text result = IsMadeIf (not (length (cells_of parts) == 0)) parts text result
 IsMadeOf (Err wrong) text result = IsRefused wrong result
@@ -87,15 +105,17 @@ IsMade text result = UnlessMemory result (IsMadeOf (parts_of text) text result)
 
 -- ---- templates
 
--- the signature in a template: that of a pointer has eight bytes
+-- the signature in a template: that of a pointer has eight bytes, and a table of coherent devices has none
 abbrev pub signature_text : FileKind → List ℕ → List ℕ
 signature_text Table signature = signature
 signature_text Rsdp signature = codes "RSD PTR "
 signature_text Facs signature = signature
+signature_text Cdat signature = []
+signature_text S3pt signature = signature
 
 -- a template of a signature, by a form that has its names
 pub record IsTemplateOf (signature text : List ℕ) : Type 0 where
   pub form : TableForm
-  pub is_named : IsNamed form (names_by (file_kind_of (carried signature)) (carried signature))
-  pub is : text ≡ template_text (signature_text (file_kind_of (carried signature)) signature)
-      (file_kind_of (carried signature)) form (walk_by (file_kind_of (carried signature)) (carried signature))
+  pub is_named : IsNamed form (names_by (template_kind (carried signature)) (carried signature))
+  pub is : text ≡ template_text (signature_text (template_kind (carried signature)) signature)
+      (template_kind (carried signature)) form (walk_by (template_kind (carried signature)) (carried signature))

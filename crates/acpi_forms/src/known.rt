@@ -10,11 +10,14 @@ use crate::form::form_of;
 fn has_form(signature: u32) -> bool
     ensures { result ≡ has_form signature }
 {
-    signature == u32::from_le_bytes(*b"RSD ") || form_of(signature).name != UNKNOWN.name
+    signature == u32::from_le_bytes(*b"RSD ")
+        || signature == u32::from_le_bytes(*b"CDAT")
+        || signature == u32::from_le_bytes(*b"S3PT")
+        || form_of(signature).name != UNKNOWN.name
 }
 
-/// Returns whether a text is a signature that has a form. A pointer's is `RSD `, as in the text of a table. The tables
-/// of other signatures are shown and made by their header alone.
+/// Returns whether a text is a signature that has a form. A pointer's is `RSD `, as in the text of a table, and `CDAT` is taken
+/// for that of the table without one. The tables of other signatures are shown and made by their header alone.
 pub fn is_known(signature: &[u8]) -> bool
     ensures { result ≡ is_known signature.now }
 {

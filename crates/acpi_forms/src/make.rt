@@ -2,11 +2,13 @@
 
 ghost use Rattle.std.specs.Prelude.{◌≡◌, ◌≢◌, length, string_bytes, IfOk, MatchOption};
 ghost use Rattle.acpi_base.specs.Bytes.{carried};
-ghost use Rattle.acpi_forms.specs.Makes.{file_kind_of, names_by, walk_by, IsMadeAs, IsMade};
-ghost use Rattle.acpi_forms.specs.Makes.{signature_text, IsTemplateOf};
+ghost use Rattle.acpi_forms.specs.Makes.{file_kind_of, text_kind, names_by, walk_by, IsMadeAs, IsMade};
+ghost use Rattle.acpi_forms.specs.Makes.{template_kind, signature_text, IsTemplateOf};
 ghost use Rattle.acpi_forms.specs.Named.{IsNamed};
 
 use crate::form::{facs_form, form_of, rsdp_form};
+use crate::further::cdat::{cdat_form, cdat_walk};
+use crate::further::s3pt::{s3pt_form, s3pt_walk};
 use acpi_base::further_walk::table_walk_of;
 use acpi_base::walk::Walk;
 use acpi_make::fault::{Fault, MakeError, Wanted};
@@ -14,7 +16,7 @@ use acpi_make::file_kind::FileKind;
 use acpi_make::item::{Item, has_bytes};
 use acpi_make::make::{Made, make_of};
 use acpi_make::read::read_text;
-use acpi_make::signature::signature_of;
+use acpi_make::signature::{begins_with_length, has_line, signature_of};
 use acpi_make::template::template_of;
 use acpi_text::form::TableForm;
 use std::alloc::{AllocError, Global};
@@ -27,8 +29,32 @@ fn file_kind_of(signature: u32) -> FileKind
         FileKind::Rsdp
     } else if signature == u32::from_le_bytes(*b"FACS") {
         FileKind::Facs
+    } else if signature == u32::from_le_bytes(*b"S3PT") {
+        FileKind::S3pt
     } else {
         FileKind::Table
+    }
+}
+
+// Returns what a text is that of, by the names of its fields and its signature.
+fn text_kind(text: &[u8], items: &[Item], signature: u32) -> FileKind
+    ensures { result ≡ text_kind text.now items.now signature }
+{
+    if begins_with_length(text, items) && has_line(b"Sequence", text, items) {
+        FileKind::Cdat
+    } else {
+        file_kind_of(signature)
+    }
+}
+
+// Returns what a template is that of.
+fn template_kind(signature: u32) -> FileKind
+    ensures { result ≡ template_kind signature }
+{
+    if signature == u32::from_le_bytes(*b"CDAT") {
+        FileKind::Cdat
+    } else {
+        file_kind_of(signature)
     }
 }
 
@@ -39,6 +65,8 @@ fn form_by(file_kind: FileKind, signature: u32) -> TableForm
         FileKind::Table => form_of(signature),
         FileKind::Rsdp => rsdp_form(),
         FileKind::Facs => facs_form(),
+        FileKind::Cdat => cdat_form(),
+        FileKind::S3pt => s3pt_form(),
     }
 }
 
@@ -49,21 +77,24 @@ fn walk_by(file_kind: FileKind, signature: u32) -> Option<Walk>
         FileKind::Table => table_walk_of(signature),
         FileKind::Rsdp => None,
         FileKind::Facs => None,
+        FileKind::Cdat => Some(cdat_walk()),
+        FileKind::S3pt => Some(s3pt_walk()),
     }
 }
 
-// Returns the table of a text by its signature.
+// Returns the table of a text by its kind and its signature.
 fn make_as(alloc: Global, signature: u32, text: &[u8], items: &[Item]) -> Result<Made, MakeError>
     ensures { IsMadeAs signature text.now items.now result }
 {
-    let file_kind = file_kind_of(signature);
+    let file_kind = text_kind(text, items, signature);
     let form = form_by(file_kind, signature);
     let walk = walk_by(file_kind, signature);
     make_of(alloc, form, walk, file_kind, text, items)
 }
 
 /// Returns the table that a text is made into: its bytes, and its own numbers that the text states otherwise. The form of the
-/// table is that of its signature. The error is that memory ran out, or what is wrong with the text, and where.
+/// table is that of its signature. A text whose first field is called `Length`, and that has a line `Sequence`, is that of a Coherent
+/// Device Attribute Table, which has no signature. The error is that memory ran out, or what is wrong with the text, and where.
 pub fn make(alloc: Global, text: &[u8]) -> Result<Made, MakeError>
     ensures { IsMade text.now result }
 {
@@ -96,12 +127,14 @@ fn signature_text(file_kind: FileKind, signature: &str) -> &str
         FileKind::Table => signature,
         FileKind::Rsdp => "RSD PTR ",
         FileKind::Facs => signature,
+        FileKind::Cdat => "",
+        FileKind::S3pt => signature,
     }
 }
 
 /// Returns a text of the table of a signature of four bytes, for a start: a line for each field, with zeros, and one structure
-/// of each kind. A signature that isn't known has the standard header. There is none of a text that hasn't four bytes. The only
-/// error is that memory ran out.
+/// of each kind. `CDAT` is taken for the signature of the table that has none. A signature that isn't known has the standard
+/// header. There is no template of a text that hasn't four bytes. The only error is that memory ran out.
 pub fn template(alloc: Global, signature: &str) -> Result<Option<String>, AllocError>
     ensures { IfOk result (λ found. MatchOption found (length signature.now ≢ 4)
         (λ text. IsTemplateOf signature.now (string_bytes text))) }
@@ -109,7 +142,7 @@ pub fn template(alloc: Global, signature: &str) -> Result<Option<String>, AllocE
     let Some(number) = number_of(signature.as_bytes()) else {
         return Ok(None);
     };
-    let file_kind = file_kind_of(number);
+    let file_kind = template_kind(number);
     let form = form_by(file_kind, number);
     let walk = walk_by(file_kind, number);
     let first = signature_text(file_kind, signature);

@@ -1,15 +1,19 @@
 //! The texts of tables and records, by the forms of their signatures.
 
-ghost use Rattle.std.specs.Prelude.{◌≡◌, None, IfOk, IfErr, string_bytes};
+ghost use Rattle.std.specs.Prelude.{◌≡◌, Some, None, IfOk, IfErr, string_bytes};
 ghost use Rattle.acpi_base.specs.Bytes.{field_at};
 ghost use Rattle.acpi_base.specs.FurtherWalk.{table_walk_of};
 ghost use Rattle.acpi_base.specs.declared.error.Error.TheVariants.{Memory};
+ghost use Rattle.acpi_forms.specs.FurtherNames.{cdat_names, s3pt_names};
 ghost use Rattle.acpi_forms.specs.Named.{names_of, rsdp_names, facs_names};
 ghost use Rattle.acpi_forms.specs.Shows.{IsTextOf};
+ghost use Rattle.acpi_forms.specs.Walks.{cdat_walk, s3pt_walk};
 ghost use Rattle.acpi_text.specs.Reading.{bytes_of};
 ghost use Rattle.acpi_text.specs.Table.{table_text};
 
 use crate::form::{facs_form, form_of, rsdp_form};
+use crate::further::cdat::{cdat_form, cdat_walk};
+use crate::further::s3pt::{s3pt_form, s3pt_walk};
 use acpi_base::error::R;
 use acpi_base::further_walk::table_walk_of;
 use acpi_base::walk::Walk;
@@ -62,4 +66,22 @@ pub fn show_facs(alloc: Global, bytes: &[u8]) -> R<String>
     ensures err { IfErr result (λ e. e ≡ Memory) }
 {
     text_by(alloc, &facs_form(), None, bytes)
+}
+
+/// Returns the text of a Coherent Device Attribute Table (CDAT 1.03). The only error is Memory.
+pub fn show_cdat(alloc: Global, bytes: &[u8]) -> R<String>
+    ensures text { IfOk result (λ text. IsTextOf cdat_names (Some cdat_walk) bytes.now (string_bytes text)) }
+    ensures bytes { IfOk result (λ text. bytes_of (string_bytes text) ≡ bytes.now) }
+    ensures err { IfErr result (λ e. e ≡ Memory) }
+{
+    text_by(alloc, &cdat_form(), Some(cdat_walk()), bytes)
+}
+
+/// Returns the text of an S3 Performance Table (ACPI 6.5, 5.2.24). The only error is Memory.
+pub fn show_s3pt(alloc: Global, bytes: &[u8]) -> R<String>
+    ensures text { IfOk result (λ text. IsTextOf s3pt_names (Some s3pt_walk) bytes.now (string_bytes text)) }
+    ensures bytes { IfOk result (λ text. bytes_of (string_bytes text) ≡ bytes.now) }
+    ensures err { IfErr result (λ e. e ≡ Memory) }
+{
+    text_by(alloc, &s3pt_form(), Some(s3pt_walk()), bytes)
 }

@@ -1,7 +1,7 @@
 //! What is wrong with bytes that are read, in words.
 
 ghost use Rattle.std.specs.Prelude.{◌≡◌};
-ghost use Rattle.acpi_forms.specs.Words.{words, rsdp_words, facs_words, words_by};
+ghost use Rattle.acpi_forms.specs.Words.{words, rsdp_words, facs_words, cdat_words, s3pt_words, words_by};
 
 use acpi_make::file_kind::FileKind;
 use acpi_term::read_error::ReadError;
@@ -53,14 +53,39 @@ fn facs_words(error: ReadError) -> &'static str
     }
 }
 
-/// Returns what is wrong with bytes that are what their signature says, in words: those of `words`, or a pointer's or a control
-/// structure's own.
+// Returns what is wrong with a table of coherent devices.
+fn cdat_words(error: ReadError) -> &'static str
+    ensures { result.now ≡ cdat_words error }
+{
+    match error {
+        ReadError::ShortHeader(_) => "a CDAT has at least 16 bytes",
+        ReadError::TableLength(_) => "the length of a CDAT isn't the number of its bytes",
+        ReadError::Sum(_) => "the bytes of a CDAT don't sum to zero",
+        error => words(error),
+    }
+}
+
+// Returns what is wrong with a table of S3 performance.
+fn s3pt_words(error: ReadError) -> &'static str
+    ensures { result.now ≡ s3pt_words error }
+{
+    match error {
+        ReadError::ShortHeader(_) => "an S3PT has at least 8 bytes",
+        ReadError::TableLength(_) => "the length of an S3PT isn't the number of its bytes",
+        error => words(error),
+    }
+}
+
+/// Returns what is wrong with bytes that are what their signature says, in words: those of `words`, or those of a kind that has
+/// no standard header.
 pub fn words_by(kind: FileKind, error: ReadError) -> &'static str
     ensures { result.now ≡ words_by kind error }
 {
     match kind {
         FileKind::Rsdp => rsdp_words(error),
         FileKind::Facs => facs_words(error),
+        FileKind::Cdat => cdat_words(error),
+        FileKind::S3pt => s3pt_words(error),
         FileKind::Table => words(error),
     }
 }

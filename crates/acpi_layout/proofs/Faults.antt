@@ -6,7 +6,8 @@ use Rattle.acpi_base.specs.Bytes.{carried, field_at}
 use Rattle.acpi_layout.specs.declared.fault.ImageFault.{ImageFault}
 use Rattle.acpi_layout.specs.declared.located.Located.{Located}
 use Rattle.acpi_layout.specs.Addresses.{Space}
-use Rattle.acpi_layout.specs.Found.{contents, IsPointer, IsNamedTableAt, IsXsdt, AreEntries, IsOnlyFadt, IsFadt, dsdt_address, IsControlOf, if_found, AreApart, Found, tables_of}
+use Rattle.acpi_layout.specs.declared.root.Root.{Root}
+use Rattle.acpi_layout.specs.Found.{contents, IsPointerTo, root_signature, root_address, least_fadt, IsNamedTableAt, IsRoot, AreEntriesOf, IsOnlyFadt, IsFadt, dsdt_address, IsControlOf, if_found, AreApart, Found, tables_of}
 use Rattle.acpi_layout.proofs.Founds.{at_exit}
 
 -- a fault that a call returned, and that is this one
@@ -31,29 +32,30 @@ four_are b long = absurd (omega (arith, long))
 
 -- ---- what is found
 
-module _ (memory : Space) (rsdp : ℕ) (p x : Located) (p_is : IsPointer memory rsdp p) (x_is : IsNamedTableAt memory (codes "XSDT") (field_at 24 8 (contents memory p)) x) where
-  pub xsdt_is : IsXsdt memory rsdp x
-  xsdt_is = record { pointer = p; pointer_is = p_is; is = x_is }
+module _ (root : Root) (memory : Space) (rsdp : ℕ) (p x : Located) (p_is : IsPointerTo root memory rsdp p)
+    (x_is : IsNamedTableAt memory (root_signature root) (root_address root (contents memory p)) x) where
+  pub listing_is : IsRoot root memory rsdp x
+  listing_is = record { pointer = p; pointer_is = p_is; is = x_is }
 
-  module _ (es ys : List Located) (es_are : AreEntries memory x es) (read : ys ≡ es) (f : Located) (f_is : IsOnlyFadt ys f) where
-    pub fadt_there : IsOnlyFadt es f
-    fadt_there = subst (λ (l : List Located). IsOnlyFadt l f) read f_is
+  module _ (es ys : List Located) (es_are : AreEntriesOf root memory x es) (read : ys ≡ es) (f : Located) (f_is : IsOnlyFadt (least_fadt root) ys f) where
+    pub fadt_there : IsOnlyFadt (least_fadt root) es f
+    fadt_there = subst (λ (l : List Located). IsOnlyFadt (least_fadt root) l f) read f_is
 
-    pub fadt_is : IsFadt memory rsdp f
-    fadt_is = record { xsdt = x; entries = es; xsdt_is = xsdt_is; entries_are = es_are; is = fadt_there }
+    pub fadt_is : IsFadt root memory rsdp f
+    fadt_is = record { listing = x; entries = es; listing_is = listing_is; entries_are = es_are; is = fadt_there }
 
-    module _ (a : Option Located) (d : Located) (a_is : IsControlOf memory (contents memory f) a)
-        (d_is : IsNamedTableAt memory (codes "DSDT") (dsdt_address (contents memory f)) d) where
-      abbrev pub all_found : Found memory rsdp
+    module _ (a : Option Located) (d : Located) (a_is : IsControlOf root memory (contents memory f) a)
+        (d_is : IsNamedTableAt memory (codes "DSDT") (dsdt_address root (contents memory f)) d) where
+      abbrev pub all_found : Found root memory rsdp
       all_found = record {
         pointer = p;
-        xsdt = x;
+        listing = x;
         entries = es;
         fadt = f;
         facs = a;
         dsdt = d;
         pointer_is = p_is;
-        xsdt_is = x_is;
+        listing_is = x_is;
         entries_are = es_are;
         fadt_is = fadt_there;
         facs_is = a_is;

@@ -17,6 +17,7 @@ use Rattle.acpi_fixed.specs.Fadt.{fadt_bytes, builder_bytes, header_fields, fadt
 use Rattle.acpi_fixed.specs.Rsdp.{rsdp_bytes, rsdp_for}
 use Rattle.acpi_fixed.proofs.Tables.{true_fadt, length-fadt}
 use Rattle.acpi_layout.specs.declared.located.Located.{Located}
+use Rattle.acpi_layout.specs.declared.root.Root.TheVariants.{Xsdt}
 use Rattle.acpi_layout.specs.Addresses.{image_at, bytes_at}
 use Rattle.acpi_layout.specs.Image.{control_bytes, control_address, pointed_fadt, listing, tables_laid, image}
 use Rattle.acpi_layout.specs.Laws.{Standing, Stand, standing_at, standing_control, xsdt_address, Points}
@@ -120,15 +121,15 @@ control_apart base None fadt d x r ms bytes h = apart_is base (d ∷ []) ms x r 
 control_apart base (Some facs) fadt d x r ms bytes h =
     some_apart base (is_reduced fadt.flags && (base == 0)) (record { address = base; bytes = facs }) d x r ms bytes h
 
-some_found : (base : ℕ) (total fadt : List ℕ) (b : Bool) (f : Located) → has_no_control fadt ≡ b → IsControlAt (image_at base total) (facs_address fadt) f
-    → IsControlOf (image_at base total) fadt (if b then None else Some f)
+some_found : (base : ℕ) (total fadt : List ℕ) (b : Bool) (f : Located) → has_no_control Xsdt fadt ≡ b → IsControlAt (image_at base total) (facs_address Xsdt fadt) f
+    → IsControlOf Xsdt (image_at base total) fadt (if b then None else Some f)
 some_found base total fadt true f says is = says
 some_found base total fadt false f says is = (says, is)
 
 control_found : (base : ℕ) (total whole : List ℕ) (facs : Option (List ℕ)) (fadt : FADTBuilder) → IsControl fadt facs → AreThere base total (standing_control base facs)
-    → facs_address whole ≡ control_address base facs → is_reduced (field_at 112 4 whole) ≡ is_reduced fadt.flags → IsControlOf (image_at base total) whole (found_control base facs fadt)
+    → facs_address Xsdt whole ≡ control_address base facs → is_reduced (field_at 112 4 whole) ≡ is_reduced fadt.flags → IsControlOf Xsdt (image_at base total) whole (found_control base facs fadt)
 control_found base total whole None fadt are there at flags =
-    ap (λ b. b && (facs_address whole == 0)) (flags ∙ are) ∙ ap (λ n. true && (n == 0)) at
+    ap (λ b. b && (facs_address Xsdt whole == 0)) (flags ∙ are) ∙ ap (λ n. true && (n == 0)) at
 control_found base total whole (Some facs) fadt are there at flags =
     let f : Standing = record { address = base; bytes = facs } in
     let f_there = there.0 in
@@ -140,7 +141,7 @@ control_found base total whole (Some facs) fadt are there at flags =
       tells = ap (λ b. field_at 4 4 b) f_bytes ∙ are.tells;
     } in
     some_found base total whole (is_reduced fadt.flags && (base == 0)) (found_at f)
-    (ap (λ b. b && (facs_address whole == 0)) flags ∙ ap (λ n. is_reduced fadt.flags && (n == 0)) at)
+    (ap (λ b. b && (facs_address Xsdt whole == 0)) flags ∙ ap (λ n. is_reduced fadt.flags && (n == 0)) at)
     (subst (λ n. IsControlAt (image_at base total) n (found_at f)) (sym at) is)
 
 -- ---- HW_REDUCED_ACPI
@@ -243,23 +244,23 @@ module _ (base : ℕ) (oem : Oem) (facs : Option (List ℕ)) (dsdt : List ℕ) (
       let first_bytes : first.bytes ≡ fadt_bytes p = ap (λ (w : Standing). w.bytes) first_is in
       let first_there = one_there base total rows 0 no_row there.rows (omega (arith, counted, some)) in
       let first_contents : contents (image_at base total) (found_at first) ≡ fadt_bytes p = first_there.is ∙ first_bytes in
-      let f_at : facs_address (contents (image_at base total) (found_at first)) ≡ control_address base facs =
-      ap facs_address first_contents ∙ address_is (fadt_bytes p) 36 132 (control_address base facs) pt.firmware_ctrl pt.x_firmware_ctrl in
-      let d_at : dsdt_address (contents (image_at base total) (found_at first)) ≡ base + length (control_bytes facs) =
-      ap dsdt_address first_contents ∙ address_is (fadt_bytes p) 40 140 (base + length (control_bytes facs)) pt.dsdt pt.x_dsdt in
+      let f_at : facs_address Xsdt (contents (image_at base total) (found_at first)) ≡ control_address base facs =
+      ap (facs_address Xsdt) first_contents ∙ address_is (fadt_bytes p) 36 132 (control_address base facs) pt.firmware_ctrl pt.x_firmware_ctrl in
+      let d_at : dsdt_address Xsdt (contents (image_at base total) (found_at first)) ≡ base + length (control_bytes facs) =
+      ap (dsdt_address Xsdt) first_contents ∙ address_is (fadt_bytes p) 40 140 (base + length (control_bytes facs)) pt.dsdt pt.x_dsdt in
       let placed : (i : ℕ) → i < length rows → i < length laid.places = λ i inside. omega (arith, counted, inside) in
       let mapped : (i : ℕ) → i < length (map found_at rows) → i < length rows = λ i inside. omega (arith, length-map rows found_at, inside) in
       let flags_at : is_reduced (field_at 112 4 (contents (image_at base total) (found_at first))) ≡ is_reduced fadt.flags =
       ap (λ b. is_reduced (field_at 112 4 b)) first_contents ∙ ap is_reduced (flags_in_fadt p are.fadt_header) ∙ flags_told fadt.flags in
-      let all_found : Found (image_at base total) r.address = record {
+      let all_found : Found Xsdt (image_at base total) r.address = record {
         pointer = found_at r;
-        xsdt = found_at x;
+        listing = found_at x;
         entries = map found_at rows;
         fadt = found_at first;
         facs = found_control base facs fadt;
         dsdt = found_at d;
         pointer_is = pointer_there base oem laid.places total x.address r.address six eight fits x_low x_there there.pointer;
-        xsdt_is = xsdt_there base oem laid.places total x.address r.address six eight fits x_low x_there there.pointer;
+        listing_is = xsdt_there base oem laid.places total x.address r.address six eight fits x_low x_there there.pointer;
         entries_are = record {
           counted = omega (arith, x_size, counted, length-map rows found_at);
           each = λ i e inside.
@@ -292,7 +293,7 @@ module _ (base : ℕ) (oem : Oem) (facs : Option (List ℕ)) (dsdt : List ℕ) (
         found = all_found;
         listed = refl;
         apart = control_apart base facs fadt d x r rows total (stand base oem facs dsdt fadt tables).all;
-        xsdt_is_correct = subst IsTrueTable (sym x_there.is) pt.xsdt_is_true;
+        listing_is_correct = subst IsTrueTable (sym x_there.is) pt.xsdt_is_true;
         entries_are_correct = All-map (λ (t : Located). IsTrueTable (contents (image_at base total) t)) found_at rows (λ i e inside.
             let row = row_at base laid.places all i e same (placed i inside) in
             let here = one_there base total rows i e there.rows inside in

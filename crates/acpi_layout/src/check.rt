@@ -4,35 +4,64 @@ ghost use Rattle.std.specs.Prelude.{◌≡◌, ◌≢◌, List, [], ◌∷◌, �
 ghost use Rattle.acpi_layout.specs.declared.fault.ImageFault.TheVariants.{Memory};
 ghost use Rattle.acpi_layout.specs.declared.located.Located.{Located};
 ghost use Rattle.acpi_layout.specs.Addresses.{memory_of};
-ghost use Rattle.acpi_layout.specs.Found.{if_found, HasTables, IsImage};
-ghost use Rattle.acpi_layout.specs.Fault.{HasFault, IsImageFault};
+ghost use Rattle.acpi_layout.specs.Found.{if_found, HasTablesOf, HasTables, IsImageOf, IsImage};
+ghost use Rattle.acpi_layout.specs.Fault.{HasFaultOf, HasFault, IsImageFaultOf, IsImageFault};
 
 use crate::apart::are_apart;
 use crate::fault::ImageFault;
-use crate::found::{are_correct, control, dsdt, entries, is_correct, only_fadt, pointer, xsdt};
+use crate::found::{
+    are_correct, control, dsdt, entries, is_correct, listing, only_fadt, pointer_to,
+};
 use crate::located::Located;
 use crate::range::Range;
+use crate::root::Root;
 use std::alloc::Global;
 
 // The tables in the order in which they are found.
 fn in_order(
     alloc: Global,
     pointer: Located,
-    xsdt: Located,
+    listing: Located,
     entries: &[Located],
     facs: Option<Located>,
     dsdt: Located,
 ) -> Result<Vec<Located>, ImageFault>
     ensures ok { IfOk result (λ tables. tables.items
-        ≡ pointer ∷ xsdt ∷ (entries.now ++ (if_found facs ++ (dsdt ∷ [])))) }
+        ≡ pointer ∷ listing ∷ (entries.now ++ (if_found facs ++ (dsdt ∷ [])))) }
     ensures err { IfErr result (λ e. e ≡ Memory) }
 {
-    let mut tables = vec![in alloc; pointer, xsdt]?;
+    let mut tables = vec![in alloc; pointer, listing]?;
     tables.extend_from_slice(entries)?;
     if let Some(facs) = facs {
         tables.push(facs)?;
     }
     tables.push(dsdt)?;
+    Ok(tables)
+}
+
+// Checks the tables in memory, which an XSDT or an RSDT lists.
+fn check_memory_of(
+    alloc: Global,
+    root: Root,
+    ranges: &[Range<'_>],
+    rsdp: u64,
+) -> Result<Vec<Located>, ImageFault>
+    ensures ok { IfOk result (λ tables. HasTablesOf root (memory_of ranges.now) rsdp tables.items) }
+    ensures err { IfErr result (λ e. e ≢ Memory → (tables : List Located)
+        → ¬ HasTablesOf root (memory_of ranges.now) rsdp tables) }
+    ensures fault { IfErr result (λ e. e ≢ Memory → HasFaultOf root (memory_of ranges.now) rsdp e) }
+{
+    let pointer = pointer_to(root, ranges, rsdp)?;
+    let listing = listing(root, ranges, pointer)?;
+    let entries = entries(alloc, root, ranges, listing)?;
+    let fadt = only_fadt(root, listing.address, &entries)?;
+    let facs = control(root, ranges, fadt)?;
+    let dsdt = dsdt(root, ranges, fadt)?;
+    let tables = in_order(alloc, pointer, listing, &entries, facs, dsdt)?;
+    are_apart(alloc, &tables)?;
+    is_correct(ranges, listing)?;
+    are_correct(ranges, &entries)?;
+    is_correct(ranges, dsdt)?;
     Ok(tables)
 }
 
@@ -57,18 +86,29 @@ pub fn check_memory(
     ensures err { IfErr result (λ e. e ≢ Memory → (tables : List Located) → ¬ HasTables (memory_of ranges.now) rsdp tables) }
     ensures fault { IfErr result (λ e. e ≢ Memory → HasFault (memory_of ranges.now) rsdp e) }
 {
-    let pointer = pointer(ranges, rsdp)?;
-    let xsdt = xsdt(ranges, pointer)?;
-    let entries = entries(alloc, ranges, xsdt)?;
-    let fadt = only_fadt(xsdt.address, &entries)?;
-    let facs = control(ranges, fadt)?;
-    let dsdt = dsdt(ranges, fadt)?;
-    let tables = in_order(alloc, pointer, xsdt, &entries, facs, dsdt)?;
-    are_apart(alloc, &tables)?;
-    is_correct(ranges, xsdt)?;
-    are_correct(ranges, &entries)?;
-    is_correct(ranges, dsdt)?;
-    Ok(tables)
+    check_memory_of(alloc, Root::Xsdt, ranges, rsdp)
+}
+
+/// Checks the tables of an image, which an XSDT or an RSDT lists, as `check_memory` those of memory. The bytes begin at the
+/// physical address `base`, and the RSDP is at the address `rsdp`. One of revision 0 or 1 has 20 bytes, and points to the RSDT.
+/// The FADT that an RSDT lists has at least 116 bytes: where it ends before X_FIRMWARE_CTRL or X_DSDT, the field of 32 bits
+/// counts.
+pub fn check_image_of(
+    alloc: Global,
+    root: Root,
+    bytes: &[u8],
+    base: u64,
+    rsdp: u64,
+) -> Result<Vec<Located>, ImageFault>
+    ensures ok { IfOk result (λ tables. IsImageOf root bytes.now base rsdp tables.items) }
+    ensures err { IfErr result (λ e. e ≢ Memory → (tables : List Located) → ¬ IsImageOf root bytes.now base rsdp tables) }
+    ensures fault { IfErr result (λ e. e ≢ Memory → IsImageFaultOf root bytes.now base rsdp e) }
+{
+    let range = Range {
+        address: base,
+        bytes,
+    };
+    check_memory_of(alloc, root, &[range], rsdp)
 }
 
 /// Checks the tables of an image, as `check_memory` those of memory. The bytes begin at the physical address `base`, and the RSDP is
@@ -83,9 +123,5 @@ pub fn check_image(
     ensures err { IfErr result (λ e. e ≢ Memory → (tables : List Located) → ¬ IsImage bytes.now base rsdp tables) }
     ensures fault { IfErr result (λ e. e ≢ Memory → IsImageFault bytes.now base rsdp e) }
 {
-    let range = Range {
-        address: base,
-        bytes,
-    };
-    check_memory(alloc, &[range], rsdp)
+    check_image_of(alloc, Root::Xsdt, bytes, base, rsdp)
 }

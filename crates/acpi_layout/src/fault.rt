@@ -15,18 +15,18 @@ pub enum ImageFault {
     Memory,
     /// A table that begins at this address isn't in the image with its whole length.
     Outside(u64),
-    /// The signature at this address isn't that of an RSDP, an XSDT, a FACS or a DSDT, to which it was pointed.
+    /// The signature at this address isn't that of an RSDP, an XSDT, an RSDT, a FACS or a DSDT, to which it was pointed.
     Signature(u64),
     /// The length of the table at this address can't be right: 36 of an RSDP, 64 of a FACS, at least 36 of any other, and
-    /// at least 148 of a FADT.
+    /// at least 148 of a FADT, or 116 if an RSDT lists it.
     Length(u64),
-    /// The revision of the RSDP at this address isn't 2.
+    /// The revision of the RSDP at this address isn't 2, or, of one that points to an RSDT, below 2.
     Revision(u64),
     /// The table at this address doesn't sum to zero.
     Sum(u64),
-    /// The length of the XSDT at this address, without its header, isn't a multiple of 8.
+    /// The length of the XSDT at this address, without its header, isn't a multiple of 8, or that of an RSDT of 4.
     Entries(u64),
-    /// The XSDT at this address lists no FADT.
+    /// The XSDT or the RSDT at this address lists no FADT.
     NoFadt(u64),
     /// The table at this address is a second FADT.
     SecondFadt(u64),
@@ -47,15 +47,15 @@ impl fmt::Display for ImageFault {
             ),
             ImageFault::Signature(address) => write!(f, "at 0x{address:x}: the signature is wrong"),
             ImageFault::Length(address) => write!(f, "at 0x{address:x}: the length is wrong"),
-            ImageFault::Revision(address) => write!(f, "at 0x{address:x}: the revision isn't 2"),
+            ImageFault::Revision(address) => write!(f, "at 0x{address:x}: the revision is wrong"),
             ImageFault::Sum(address) => write!(f, "at 0x{address:x}: the bytes don't sum to zero"),
             ImageFault::Entries(address) => {
                 write!(
                     f,
-                    "at 0x{address:x}: the XSDT doesn't end after a whole entry"
+                    "at 0x{address:x}: the list of tables doesn't end after a whole entry"
                 )
             }
-            ImageFault::NoFadt(address) => write!(f, "at 0x{address:x}: the XSDT lists no FADT"),
+            ImageFault::NoFadt(address) => write!(f, "at 0x{address:x}: no FADT is listed"),
             ImageFault::SecondFadt(address) => write!(f, "at 0x{address:x}: this is a second FADT"),
             ImageFault::Overlap(first, second) => {
                 write!(

@@ -1,24 +1,28 @@
 //! The tables of an image, each found by the address that another one contains.
 
-ghost use Rattle.std.specs.Prelude.{◌≡◌, ◌≢◌, ℕ, ◌+◌, ◌*◌, ◌<◌, ◌≤◌, false, List, length, codes, slice_index_or};
+ghost use Rattle.std.specs.Prelude.{◌≡◌, ◌≢◌, ℕ, ◌+◌, ◌*◌, ◌^◌, ◌<◌, ◌≤◌, false, List, length, codes, slice_index_or};
 ghost use Rattle.std.specs.Prelude.{Option, IfSome, IfNone, IfOk, IfErr, OnOk, OnErr};
 ghost use Rattle.std.specs.List.{All, Contains};
 ghost use Rattle.acpi_base.specs.Bytes.{field_at};
 ghost use Rattle.acpi_base.specs.Table.{IsTrueTable};
 ghost use Rattle.acpi_layout.specs.declared.fault.ImageFault.TheVariants.{Memory};
 ghost use Rattle.acpi_layout.specs.declared.located.Located.{Located};
+ghost use Rattle.acpi_layout.specs.declared.root.Root.TheVariants as roots;
 ghost use Rattle.acpi_layout.specs.Addresses.{LiesIn, memory_of};
-ghost use Rattle.acpi_layout.specs.Found.{contents, IsTableAt, IsPointer, IsNamedTableAt, AreAddresses, AreEntries};
-ghost use Rattle.acpi_layout.specs.Found.{IsOnlyFadt, IsControlAt};
-ghost use Rattle.acpi_layout.specs.Found.{address_of, facs_address, dsdt_address, is_reduced, has_no_control};
+ghost use Rattle.acpi_layout.specs.Found.{contents, IsTableAt, IsPointer, IsOldPointer, IsNamedTableAt, AreAddresses};
+ghost use Rattle.acpi_layout.specs.Found.{IsPointerTo, root_address, root_address_end, root_signature, entry_width, least_fadt};
+ghost use Rattle.acpi_layout.specs.Found.{AreEntriesOf, IsOnlyFadt, IsControlAt};
+ghost use Rattle.acpi_layout.specs.Found.{address_of, address_in, facs_address, dsdt_address, is_reduced, has_no_control};
 ghost use Rattle.acpi_layout.specs.Found.{IsControlOf, Lists};
-ghost use Rattle.acpi_layout.specs.Fault.{IsTableFault, IsNamedTableFault, IsPointerFault, IsControlFault};
+ghost use Rattle.acpi_layout.specs.Fault.{IsTableFault, IsNamedTableFault, IsPointerFault, IsOldPointerFault, IsPointerFaultTo};
+ghost use Rattle.acpi_layout.specs.Fault.{IsControlFault};
 ghost use Rattle.acpi_layout.specs.Fault.{HasPartOfEntry, IsEntriesFault};
 ghost use Rattle.acpi_layout.specs.Fault.{IsNoList, IsFadtFault};
 
 use crate::fault::ImageFault;
 use crate::located::Located;
 use crate::range::{Range, contents, part};
+use crate::root::Root;
 use acpi_read::bytes::{dword_at, qword_at, sums_to_zero};
 use acpi_read::table::Table;
 use std::alloc::Global;
@@ -60,8 +64,8 @@ fn named_table(
     Ok(found)
 }
 
-// The RSDP at an address.
-pub(crate) fn pointer(ranges: &[Range<'_>], address: u64) -> Result<Located, ImageFault>
+// The RSDP of revision 2 at an address.
+fn pointer(ranges: &[Range<'_>], address: u64) -> Result<Located, ImageFault>
     ensures ok { IfOk result (λ rsdp. IsPointer (memory_of ranges.now) address rsdp) }
     ensures err { OnErr result ((rsdp : Located) → ¬ IsPointer (memory_of ranges.now) address rsdp) }
     ensures fault { IfErr result (IsPointerFault (memory_of ranges.now) address) }
@@ -87,19 +91,84 @@ pub(crate) fn pointer(ranges: &[Range<'_>], address: u64) -> Result<Located, Ima
     })
 }
 
-// The XSDT of an RSDP.
-pub(crate) fn xsdt(ranges: &[Range<'_>], pointer: Located) -> Result<Located, ImageFault>
-    requires lies { LiesIn (memory_of ranges.now) pointer.address pointer.length }
-    requires within { 32 ≤ pointer.length }
-    ensures ok { IfOk result (λ xsdt.
-        IsNamedTableAt (memory_of ranges.now) (codes "XSDT") (field_at 24 8 (contents (memory_of ranges.now) pointer)) xsdt) }
-    ensures err { OnErr result ((xsdt : Located)
-        → ¬ IsNamedTableAt (memory_of ranges.now) (codes "XSDT") (field_at 24 8 (contents (memory_of ranges.now) pointer)) xsdt) }
-    ensures fault { IfErr result
-        (IsNamedTableFault (memory_of ranges.now) (codes "XSDT") (field_at 24 8 (contents (memory_of ranges.now) pointer))) }
+// The RSDP of an earlier revision at an address.
+fn old_pointer(ranges: &[Range<'_>], address: u64) -> Result<Located, ImageFault>
+    ensures ok { IfOk result (λ rsdp. IsOldPointer (memory_of ranges.now) address rsdp) }
+    ensures err { OnErr result ((rsdp : Located) → ¬ IsOldPointer (memory_of ranges.now) address rsdp) }
+    ensures fault { IfErr result (IsOldPointerFault (memory_of ranges.now) address) }
 {
-    let address = qword_at(contents(ranges, pointer), 24);
-    named_table(ranges, *b"XSDT", address)
+    let whole = part(ranges, address, 20)?;
+    if whole[..8] != b"RSD PTR "[..] {
+        return Err(ImageFault::Signature(address));
+    }
+    if whole[15] >= 2 {
+        return Err(ImageFault::Revision(address));
+    }
+    if !sums_to_zero(whole) {
+        return Err(ImageFault::Sum(address));
+    }
+    let signature = [whole[0], whole[1], whole[2], whole[3]];
+    Ok(Located {
+        address,
+        length: 20,
+        signature,
+    })
+}
+
+// The RSDP at an address that points to an XSDT, or to an RSDT.
+pub(crate) fn pointer_to(
+    root: Root,
+    ranges: &[Range<'_>],
+    address: u64,
+) -> Result<Located, ImageFault>
+    ensures ok { IfOk result (λ rsdp. IsPointerTo root (memory_of ranges.now) address rsdp) }
+    ensures err { OnErr result ((rsdp : Located) → ¬ IsPointerTo root (memory_of ranges.now) address rsdp) }
+    ensures fault { IfErr result (IsPointerFaultTo root (memory_of ranges.now) address) }
+{
+    match root {
+        Root::Xsdt => pointer(ranges, address),
+        Root::Rsdt => old_pointer(ranges, address),
+    }
+}
+
+// The address of the XSDT or the RSDT in an RSDP.
+fn root_address(root: Root, pointer: &[u8]) -> u64
+    requires { root_address_end root ≤ length pointer.now }
+    ensures { result ≡ root_address root pointer.now }
+{
+    match root {
+        Root::Xsdt => qword_at(pointer, 24),
+        Root::Rsdt => u64::from(dword_at(pointer, 16)),
+    }
+}
+
+// The signature of the XSDT or the RSDT.
+fn root_signature(root: Root) -> [u8; 4]
+    ensures { result ≡ root_signature root }
+{
+    match root {
+        Root::Xsdt => *b"XSDT",
+        Root::Rsdt => *b"RSDT",
+    }
+}
+
+// The XSDT or the RSDT of an RSDP.
+pub(crate) fn listing(
+    root: Root,
+    ranges: &[Range<'_>],
+    pointer: Located,
+) -> Result<Located, ImageFault>
+    requires lies { LiesIn (memory_of ranges.now) pointer.address pointer.length }
+    requires within { root_address_end root ≤ pointer.length }
+    ensures ok { IfOk result (λ listing. IsNamedTableAt (memory_of ranges.now) (root_signature root)
+        (root_address root (contents (memory_of ranges.now) pointer)) listing) }
+    ensures err { OnErr result ((listing : Located) → ¬ IsNamedTableAt (memory_of ranges.now) (root_signature root)
+        (root_address root (contents (memory_of ranges.now) pointer)) listing) }
+    ensures fault { IfErr result (IsNamedTableFault (memory_of ranges.now) (root_signature root)
+        (root_address root (contents (memory_of ranges.now) pointer))) }
+{
+    let address = root_address(root, contents(ranges, pointer));
+    named_table(ranges, root_signature(root), address)
 }
 
 // The address that a FADT has in two fields: that of 64 bits if it isn't 0, and that of 32 bits otherwise.
@@ -116,34 +185,60 @@ fn address_of(fadt: &[u8], low: usize, high: usize) -> u64
     address
 }
 
-// FIRMWARE_CTRL is at offset 36, and X_FIRMWARE_CTRL at 132.
-fn facs_address(fadt: &[u8]) -> u64
-    requires { 148 ≤ length fadt.now }
-    ensures { result ≡ facs_address fadt.now }
+// The same of a FADT that an RSDT lists, which may end before the field of 64 bits.
+fn old_address_of(fadt: &[u8], low: usize, high: usize) -> u64
+    requires low { low + 4 ≤ length fadt.now }
+    requires high { high + 8 < 2 ^ 64 }
+    ensures { result ≡ address_in roots.Rsdt fadt.now low high }
 {
-    address_of(fadt, 36, 132)
+    if fadt.len() < high + 8 {
+        u64::from(dword_at(fadt, low))
+    } else {
+        address_of(fadt, low, high)
+    }
+}
+
+// The address that a FADT has in two fields, which are those of a FADT of the least length.
+fn address_in(root: Root, fadt: &[u8], low: usize, high: usize) -> u64
+    requires least { least_fadt root ≤ length fadt.now }
+    requires low { low + 4 ≤ 116 }
+    requires high { high + 8 ≤ 148 }
+    ensures { result ≡ address_in root fadt.now low high }
+{
+    match root {
+        Root::Xsdt => address_of(fadt, low, high),
+        Root::Rsdt => old_address_of(fadt, low, high),
+    }
+}
+
+// FIRMWARE_CTRL is at offset 36, and X_FIRMWARE_CTRL at 132.
+fn facs_address(root: Root, fadt: &[u8]) -> u64
+    requires { least_fadt root ≤ length fadt.now }
+    ensures { result ≡ facs_address root fadt.now }
+{
+    address_in(root, fadt, 36, 132)
 }
 
 // DSDT is at offset 40, and X_DSDT at 140.
-fn dsdt_address(fadt: &[u8]) -> u64
-    requires { 148 ≤ length fadt.now }
-    ensures { result ≡ dsdt_address fadt.now }
+fn dsdt_address(root: Root, fadt: &[u8]) -> u64
+    requires { least_fadt root ≤ length fadt.now }
+    ensures { result ≡ dsdt_address root fadt.now }
 {
-    address_of(fadt, 40, 140)
+    address_in(root, fadt, 40, 140)
 }
 
 // The DSDT of a FADT.
-pub(crate) fn dsdt(ranges: &[Range<'_>], fadt: Located) -> Result<Located, ImageFault>
+pub(crate) fn dsdt(root: Root, ranges: &[Range<'_>], fadt: Located) -> Result<Located, ImageFault>
     requires lies { LiesIn (memory_of ranges.now) fadt.address fadt.length }
-    requires within { 148 ≤ fadt.length }
+    requires within { least_fadt root ≤ fadt.length }
     ensures ok { IfOk result (λ dsdt.
-        IsNamedTableAt (memory_of ranges.now) (codes "DSDT") (dsdt_address (contents (memory_of ranges.now) fadt)) dsdt) }
+        IsNamedTableAt (memory_of ranges.now) (codes "DSDT") (dsdt_address root (contents (memory_of ranges.now) fadt)) dsdt) }
     ensures err { OnErr result ((dsdt : Located)
-        → ¬ IsNamedTableAt (memory_of ranges.now) (codes "DSDT") (dsdt_address (contents (memory_of ranges.now) fadt)) dsdt) }
+        → ¬ IsNamedTableAt (memory_of ranges.now) (codes "DSDT") (dsdt_address root (contents (memory_of ranges.now) fadt)) dsdt) }
     ensures fault { IfErr result
-        (IsNamedTableFault (memory_of ranges.now) (codes "DSDT") (dsdt_address (contents (memory_of ranges.now) fadt))) }
+        (IsNamedTableFault (memory_of ranges.now) (codes "DSDT") (dsdt_address root (contents (memory_of ranges.now) fadt))) }
 {
-    let address = dsdt_address(contents(ranges, fadt));
+    let address = dsdt_address(root, contents(ranges, fadt));
     named_table(ranges, *b"DSDT", address)
 }
 
@@ -155,11 +250,11 @@ pub(crate) fn is_reduced(flags: u32) -> bool
 }
 
 // Whether a FADT says that there is no FACS.
-fn has_no_control(fadt: &[u8]) -> bool
-    requires { 148 ≤ length fadt.now }
-    ensures { result ≡ has_no_control fadt.now }
+fn has_no_control(root: Root, fadt: &[u8]) -> bool
+    requires { least_fadt root ≤ length fadt.now }
+    ensures { result ≡ has_no_control root fadt.now }
 {
-    is_reduced(dword_at(fadt, 112)) && facs_address(fadt) == 0
+    is_reduced(dword_at(fadt, 112)) && facs_address(root, fadt) == 0
 }
 
 // The FACS at an address.
@@ -184,34 +279,61 @@ fn control_at(ranges: &[Range<'_>], address: u64) -> Result<Located, ImageFault>
 }
 
 // The FACS of a FADT, or none.
-pub(crate) fn control(ranges: &[Range<'_>], fadt: Located) -> Result<Option<Located>, ImageFault>
+pub(crate) fn control(
+    root: Root,
+    ranges: &[Range<'_>],
+    fadt: Located,
+) -> Result<Option<Located>, ImageFault>
     requires lies { LiesIn (memory_of ranges.now) fadt.address fadt.length }
-    requires within { 148 ≤ fadt.length }
-    ensures ok { IfOk result (λ facs. IsControlOf (memory_of ranges.now) (contents (memory_of ranges.now) fadt) facs) }
-    ensures err { OnErr result ((facs : Option Located) → ¬ IsControlOf (memory_of ranges.now) (contents (memory_of ranges.now) fadt) facs) }
-    ensures says { OnErr result (has_no_control (contents (memory_of ranges.now) fadt) ≡ false) }
-    ensures fault { IfErr result (IsControlFault (memory_of ranges.now) (facs_address (contents (memory_of ranges.now) fadt))) }
+    requires within { least_fadt root ≤ fadt.length }
+    ensures ok { IfOk result (λ facs. IsControlOf root (memory_of ranges.now) (contents (memory_of ranges.now) fadt) facs) }
+    ensures err { OnErr result ((facs : Option Located)
+        → ¬ IsControlOf root (memory_of ranges.now) (contents (memory_of ranges.now) fadt) facs) }
+    ensures says { OnErr result (has_no_control root (contents (memory_of ranges.now) fadt) ≡ false) }
+    ensures fault { IfErr result
+        (IsControlFault (memory_of ranges.now) (facs_address root (contents (memory_of ranges.now) fadt))) }
 {
     let fields = contents(ranges, fadt);
-    if has_no_control(fields) {
+    if has_no_control(root, fields) {
         return Ok(None);
     }
-    let facs = control_at(ranges, facs_address(fields))?;
+    let facs = control_at(ranges, facs_address(root, fields))?;
     Ok(Some(facs))
 }
 
-// The number of addresses in an XSDT.
-fn entry_count(xsdt: Located) -> Result<usize, ImageFault>
-    requires { 36 ≤ xsdt.length }
-    ensures ok { IfOk result (λ count. xsdt.length ≡ 36 + 8 * count) }
-    ensures err { OnErr result (HasPartOfEntry xsdt) }
-    ensures fault { IfErr result (λ e. e ≡ ImageFault.Entries xsdt.address) }
+// The number of addresses in an XSDT or an RSDT.
+fn entry_count(root: Root, listing: Located) -> Result<usize, ImageFault>
+    requires { 36 ≤ listing.length }
+    ensures ok { IfOk result (λ count. listing.length ≡ 36 + entry_width root * count) }
+    ensures err { OnErr result (HasPartOfEntry root listing) }
+    ensures fault { IfErr result (λ e. e ≡ ImageFault.Entries listing.address) }
 {
-    let size = xsdt.length - 36;
-    if size % 8 != 0 {
-        return Err(ImageFault::Entries(xsdt.address));
+    let size = listing.length - 36;
+    match root {
+        Root::Xsdt => {
+            if size % 8 != 0 {
+                return Err(ImageFault::Entries(listing.address));
+            }
+            Ok(size as usize / 8)
+        }
+        Root::Rsdt => {
+            if size % 4 != 0 {
+                return Err(ImageFault::Entries(listing.address));
+            }
+            Ok(size as usize / 4)
+        }
     }
-    Ok(size as usize / 8)
+}
+
+// The address at an index of an XSDT or an RSDT.
+fn entry_at(root: Root, listing: &[u8], index: usize) -> u64
+    requires { 36 + entry_width root * (index + 1) ≤ length listing.now }
+    ensures { result ≡ field_at (36 + entry_width root * index) (entry_width root) listing.now }
+{
+    match root {
+        Root::Xsdt => qword_at(listing, 36 + 8 * index),
+        Root::Rsdt => u64::from(dword_at(listing, 36 + 4 * index)),
+    }
 }
 
 // The addresses that an XSDT lists.
@@ -220,9 +342,9 @@ fn addresses(alloc: Global, ranges: &[Range<'_>], xsdt: Located) -> Result<Vec<u
     requires within { 36 ≤ xsdt.length }
     ensures ok { IfOk result (λ addresses. AreAddresses (memory_of ranges.now) xsdt addresses.items) }
     ensures err { IfErr result (λ e. e ≢ Memory → (addresses : List ℕ) → ¬ AreAddresses (memory_of ranges.now) xsdt addresses) }
-    ensures fault { IfErr result (λ e. e ≢ Memory → HasPartOfEntry xsdt × (e ≡ ImageFault.Entries xsdt.address)) }
+    ensures fault { IfErr result (λ e. e ≢ Memory → HasPartOfEntry roots.Xsdt xsdt × (e ≡ ImageFault.Entries xsdt.address)) }
 {
-    let count = entry_count(xsdt)?;
+    let count = entry_count(Root::Xsdt, xsdt)?;
     let whole = contents(ranges, xsdt);
     let mut addresses = Vec::new(alloc);
     for i in 0..count {
@@ -237,28 +359,30 @@ pub(crate) fn listed(alloc: Global, ranges: &[Range<'_>], rsdp: u64) -> Result<V
     ensures err { IfErr result (λ e. e ≢ Memory → (addresses : List ℕ) → ¬ Lists (memory_of ranges.now) rsdp addresses) }
     ensures fault { IfErr result (λ e. e ≢ Memory → IsNoList (memory_of ranges.now) rsdp e) }
 {
-    let pointer = pointer(ranges, rsdp)?;
-    let xsdt = xsdt(ranges, pointer)?;
+    let pointer = pointer_to(Root::Xsdt, ranges, rsdp)?;
+    let xsdt = listing(Root::Xsdt, ranges, pointer)?;
     addresses(alloc, ranges, xsdt)
 }
 
-// The tables that an XSDT lists.
+// The tables that an XSDT or an RSDT lists.
 pub(crate) fn entries(
     alloc: Global,
+    root: Root,
     ranges: &[Range<'_>],
-    xsdt: Located,
+    listing: Located,
 ) -> Result<Vec<Located>, ImageFault>
-    requires lies { LiesIn (memory_of ranges.now) xsdt.address xsdt.length }
-    requires within { 36 ≤ xsdt.length }
-    ensures ok { IfOk result (λ entries. AreEntries (memory_of ranges.now) xsdt entries.items) }
-    ensures err { IfErr result (λ e. e ≢ Memory → (entries : List Located) → ¬ AreEntries (memory_of ranges.now) xsdt entries) }
-    ensures fault { IfErr result (λ e. e ≢ Memory → IsEntriesFault (memory_of ranges.now) xsdt e) }
+    requires lies { LiesIn (memory_of ranges.now) listing.address listing.length }
+    requires within { 36 ≤ listing.length }
+    ensures ok { IfOk result (λ entries. AreEntriesOf root (memory_of ranges.now) listing entries.items) }
+    ensures err { IfErr result (λ e. e ≢ Memory → (entries : List Located)
+        → ¬ AreEntriesOf root (memory_of ranges.now) listing entries) }
+    ensures fault { IfErr result (λ e. e ≢ Memory → IsEntriesFault root (memory_of ranges.now) listing e) }
 {
-    let count = entry_count(xsdt)?;
-    let whole = contents(ranges, xsdt);
+    let count = entry_count(root, listing)?;
+    let whole = contents(ranges, listing);
     let mut entries = Vec::new(alloc);
     for i in 0..count {
-        entries.push(table(ranges, qword_at(whole, 36 + 8 * i))?)?;
+        entries.push(table(ranges, entry_at(root, whole, i))?)?;
     }
     Ok(entries)
 }
@@ -279,14 +403,24 @@ fn first_fadt(tables: &[Located]) -> Option<usize>
     None
 }
 
-// The only FADT of these tables, which the XSDT at an address lists.
-pub(crate) fn only_fadt(xsdt: u64, tables: &[Located]) -> Result<Located, ImageFault>
-    ensures ok { IfOk result (λ fadt. IsOnlyFadt tables.now fadt) }
-    ensures err { OnErr result ((fadt : Located) → ¬ IsOnlyFadt tables.now fadt) }
-    ensures fault { IfErr result (IsFadtFault xsdt tables.now) }
+// The least length of a FADT that an XSDT or an RSDT lists.
+fn least_fadt(root: Root) -> u32
+    ensures { result ≡ least_fadt root }
+{
+    match root {
+        Root::Xsdt => 148,
+        Root::Rsdt => 116,
+    }
+}
+
+// The only FADT of these tables, which the table at an address lists, if it has at least this length.
+fn only_fadt_of(least: u32, listing: u64, tables: &[Located]) -> Result<Located, ImageFault>
+    ensures ok { IfOk result (λ fadt. IsOnlyFadt least tables.now fadt) }
+    ensures err { OnErr result ((fadt : Located) → ¬ IsOnlyFadt least tables.now fadt) }
+    ensures fault { IfErr result (IsFadtFault least listing tables.now) }
 {
     let Some(index) = first_fadt(tables) else {
-        return Err(ImageFault::NoFadt(xsdt));
+        return Err(ImageFault::NoFadt(listing));
     };
     let fadt = tables[index];
     for other in &tables[index + 1..] {
@@ -294,10 +428,19 @@ pub(crate) fn only_fadt(xsdt: u64, tables: &[Located]) -> Result<Located, ImageF
             return Err(ImageFault::SecondFadt(other.address));
         }
     }
-    if fadt.length < 148 {
+    if fadt.length < least {
         return Err(ImageFault::Length(fadt.address));
     }
     Ok(fadt)
+}
+
+// The only FADT of these tables, which the XSDT or the RSDT at an address lists.
+pub(crate) fn only_fadt(root: Root, listing: u64, tables: &[Located]) -> Result<Located, ImageFault>
+    ensures ok { IfOk result (λ fadt. IsOnlyFadt (least_fadt root) tables.now fadt) }
+    ensures err { OnErr result ((fadt : Located) → ¬ IsOnlyFadt (least_fadt root) tables.now fadt) }
+    ensures fault { IfErr result (IsFadtFault (least_fadt root) listing tables.now) }
+{
+    only_fadt_of(least_fadt(root), listing, tables)
 }
 
 // Each table sums to zero, and has its length.

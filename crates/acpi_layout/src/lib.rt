@@ -12,5 +12,6 @@ pub mod layout;
 pub mod located;
 mod place;
 pub mod range;
+pub mod root;
 pub mod rsdt;
 pub mod rsdt_fault;

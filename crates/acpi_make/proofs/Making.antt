@@ -76,6 +76,8 @@ summed_known kinds.Table bytes = filled_known 9 1 _ bytes
 summed_known kinds.Rsdp bytes =
     ap (summed_at 32 (length (known_cells bytes))) (filled_known 8 1 _ bytes) ∙ filled_known 32 1 _ bytes
 summed_known kinds.Facs bytes = refl
+summed_known kinds.Cdat bytes = filled_known 5 1 _ bytes
+summed_known kinds.S3pt bytes = refl
 
 known_all : (bytes : List ℕ) → known (known_cells bytes) ≡ Ok bytes
 known_all [] = refl

@@ -92,6 +92,8 @@ length_summed : (file_kind : FileKind) (cells : List Cell) → length (summed fi
 length_summed kinds.Table cells = length_filled 9 1 _ cells
 length_summed kinds.Rsdp cells = length_filled 32 1 _ _ ∙ length_filled 8 1 _ cells
 length_summed kinds.Facs cells = refl
+length_summed kinds.Cdat cells = length_filled 5 1 _ cells
+length_summed kinds.S3pt cells = refl
 
 length_completed : (file_kind : FileKind) (owns : List Own) (cells : List Cell) (bytes : List ℕ) → completed file_kind owns cells ≡ Ok bytes
     → length bytes ≡ length cells

@@ -7,7 +7,7 @@ use Rattle.acpi_make.specs.Gives.{with_front}
 use Rattle.acpi_make.specs.Item.{known_cells}
 use Rattle.acpi_make.specs.Extent.{own}
 use Rattle.acpi_make.specs.declared.file_kind.FileKind.{FileKind}
-use Rattle.acpi_make.specs.declared.file_kind.FileKind.TheVariants.{Table, Rsdp, Facs}
+use Rattle.acpi_make.specs.declared.file_kind.FileKind.TheVariants.{Table, Rsdp, Facs, Cdat, S3pt}
 use Rattle.acpi_make.specs.Fault.{Fault, fault}
 use Rattle.acpi_make.specs.declared.fault.Wanted.TheVariants as wants
 use Rattle.acpi_make.specs.declared.item.Cell.{Cell}
@@ -50,17 +50,23 @@ known_sum (Byte b ∷ cells) = b + known_sum cells
 abbrev pub summed_at : ℕ → ℕ → List Cell → List Cell
 summed_at offset n cells = filled offset 1 (complement (known_sum (take n cells))) cells
 
--- The checksums: of a table (ACPI 6.5, 5.2.6), and of a pointer, for its first 20 bytes and for all (5.2.5.3).
+-- The checksums: of a table (ACPI 6.5, 5.2.6), of a pointer, for its first 20 bytes and for all (5.2.5.3), and of a table of
+-- coherent devices (CDAT 1.03).
 abbrev pub summed : FileKind → List Cell → List Cell
 summed Table cells = summed_at 9 (length cells) cells
 summed Rsdp cells = summed_at 32 (length cells) (summed_at 8 20 cells)
 summed Facs cells = cells
+summed Cdat cells = summed_at 5 (length cells) cells
+summed S3pt cells = cells
 
--- the length of all bytes: of a table (5.2.6), of a pointer (5.2.5.3), and of a control structure (5.2.10)
+-- The length of all bytes: of a table (5.2.6), of a pointer (5.2.5.3), of a control structure (5.2.10), of a table of coherent
+-- devices (CDAT 1.03), and of a table of S3 performance (ACPI 6.5, 5.2.24).
 abbrev pub length_own : FileKind → ℕ → Own
 length_own Table total = own 4 4 total
 length_own Rsdp total = own 20 4 total
 length_own Facs total = own 4 4 total
+length_own Cdat total = own 0 4 total
+length_own S3pt total = own 4 4 total
 
 -- ---- all bytes
 

@@ -5,7 +5,7 @@ use Rattle.std.specs.Prelude.{List, [], ◌∷◌, ◌++◌, length, take, drop}
 use Rattle.acpi_base.specs.Bytes.{complement}
 use Rattle.acpi_make.specs.Extent.{own}
 use Rattle.acpi_make.specs.declared.file_kind.FileKind.{FileKind}
-use Rattle.acpi_make.specs.declared.file_kind.FileKind.TheVariants.{Table, Rsdp, Facs}
+use Rattle.acpi_make.specs.declared.file_kind.FileKind.TheVariants.{Table, Rsdp, Facs, Cdat, S3pt}
 use Rattle.acpi_make.specs.declared.extent.Own.{Own}
 
 -- whether bytes begin with w bytes of this number, lowest first
@@ -31,11 +31,14 @@ untrue_sum offset n bytes =
     then own offset 1 ((slice_index bytes offset + complement (sum (take n bytes))) % 256) ∷ []
     else []
 
--- The checksums: of a table (ACPI 6.5, 5.2.6), and of a pointer, for its first 20 bytes and for all (5.2.5.3).
+-- The checksums: of a table (ACPI 6.5, 5.2.6), of a pointer, for its first 20 bytes and for all (5.2.5.3), and of a table of
+-- coherent devices (CDAT 1.03).
 abbrev pub untrue_sums : FileKind → List ℕ → List Own
 untrue_sums Table bytes = untrue_sum 9 (length bytes) bytes
 untrue_sums Rsdp bytes = untrue_sum 8 20 bytes ++ untrue_sum 32 (length bytes) bytes
 untrue_sums Facs bytes = []
+untrue_sums Cdat bytes = untrue_sum 5 (length bytes) bytes
+untrue_sums S3pt bytes = []
 
 -- the numbers that aren't in their fields, and the checksums that aren't right
 abbrev pub notes : FileKind → List Own → List ℕ → List Own

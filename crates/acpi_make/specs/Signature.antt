@@ -1,7 +1,8 @@
--- The signature of a text's table.
-use Rattle.std.specs.Prelude.{ℕ, List, [], ◌∷◌, Option, Some, None}
+-- How the table of a text begins: with its signature, or without one.
+use Rattle.std.specs.Prelude.{ℕ, ◌||◌, Bool, false, List, [], ◌∷◌, Option, Some, None, codes}
 use Rattle.acpi_base.specs.Bytes.{carried}
-use Rattle.acpi_make.specs.Text.{if_some}
+use Rattle.acpi_make.specs.Entry.{is_line_of}
+use Rattle.acpi_make.specs.Text.{if_some, part_at, after_offset}
 use Rattle.acpi_make.specs.declared.item.Cell.TheVariants.{Byte, Left}
 use Rattle.acpi_make.specs.declared.item.Item.{Item}
 use Rattle.acpi_make.specs.declared.item.Item.TheVariants.{Cell, Heading, Name, Value}
@@ -23,3 +24,19 @@ signature_of items =
     if_some (first_byte b.1) (λ c.
     if_some (first_byte c.1) (λ d.
     Some (carried (a.0 ∷ b.0 ∷ c.0 ∷ d.0 ∷ []))))))
+
+-- whether the first line is that of a field with the name Length: that of a table without a signature
+abbrev pub begins_with_length : List ℕ → List Item → Bool
+begins_with_length text [] = false
+begins_with_length text (Heading from to ∷ items) = begins_with_length text items
+begins_with_length text (Name from to ∷ items) = is_line_of (codes "Length") (after_offset (part_at from to text))
+begins_with_length text (Cell cell ∷ items) = false
+begins_with_length text (Value from to ∷ items) = false
+
+-- whether a text has a line with a name
+abbrev pub has_line : List ℕ → List ℕ → List Item → Bool
+has_line name text [] = false
+has_line name text (Heading from to ∷ items) = has_line name text items
+has_line name text (Name from to ∷ items) = is_line_of name (after_offset (part_at from to text)) || has_line name text items
+has_line name text (Cell cell ∷ items) = has_line name text items
+has_line name text (Value from to ∷ items) = has_line name text items

@@ -297,6 +297,8 @@ abbrev pub sums_at : FileKind → List ℕ
 sums_at kinds.Table = 9 ∷ []
 sums_at kinds.Rsdp = 8 ∷ 32 ∷ []
 sums_at kinds.Facs = []
+sums_at kinds.Cdat = 5 ∷ []
+sums_at kinds.S3pt = []
 
 abbrev pub walk_at : Option Walk → List ℕ
 walk_at (Some walk) = place_at walk.count ++ place_at walk.first

@@ -107,7 +107,8 @@ fn fill_sums(file_kind: FileKind, cells: &mut [Cell])
             fill_sum(8, 20, cells);
             fill_sum(32, size, cells);
         }
-        FileKind::Facs => {}
+        FileKind::Cdat => fill_sum(5, cells.len(), cells),
+        FileKind::Facs | FileKind::S3pt => {}
     }
 }
 
@@ -119,6 +120,8 @@ pub fn length_own(file_kind: FileKind, total: usize) -> Own
         FileKind::Table => 4,
         FileKind::Rsdp => 20,
         FileKind::Facs => 4,
+        FileKind::Cdat => 0,
+        FileKind::S3pt => 4,
     };
     Own {
         offset,

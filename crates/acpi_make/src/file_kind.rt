@@ -9,4 +9,8 @@ pub enum FileKind {
     Rsdp,
     /// A Firmware ACPI Control Structure (ACPI 6.5, 5.2.10).
     Facs,
+    /// A Coherent Device Attribute Table (CDAT 1.03), which has no signature, and begins with its length.
+    Cdat,
+    /// An S3 Performance Table (ACPI 6.5, 5.2.24), which has a length and no checksum.
+    S3pt,
 }

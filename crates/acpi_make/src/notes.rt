@@ -106,7 +106,8 @@ fn push_untrue_sums(
             push_untrue_sum(8, 20, bytes, list)?;
             push_untrue_sum(32, bytes.len(), bytes, list)
         }
-        FileKind::Facs => Ok(()),
+        FileKind::Cdat => push_untrue_sum(5, bytes.len(), bytes, list),
+        FileKind::Facs | FileKind::S3pt => Ok(()),
     }
 }
 

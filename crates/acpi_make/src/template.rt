@@ -707,7 +707,11 @@ fn push_sums(file_kind: FileKind, own: &mut Vec<usize>) -> Result<(), AllocError
             own.push(32)?;
             Ok(())
         }
-        FileKind::Facs => Ok(()),
+        FileKind::Cdat => {
+            own.push(5)?;
+            Ok(())
+        }
+        FileKind::Facs | FileKind::S3pt => Ok(()),
     }
 }
 

@@ -388,13 +388,14 @@ pub mod ivrs {
 
 /// The tables of a guest at their addresses, in one image, which is made and checked.
 pub mod layout {
-    pub use acpi_layout::check::{check_image, check_memory};
+    pub use acpi_layout::check::{check_image, check_image_of, check_memory};
     pub use acpi_layout::fault::ImageFault;
     pub use acpi_layout::files::lay_files;
     pub use acpi_layout::lay_fault::LayFault;
     pub use acpi_layout::layout::{Image, lay, lay_reduced};
     pub use acpi_layout::located::Located;
     pub use acpi_layout::range::Range;
+    pub use acpi_layout::root::Root;
     pub use acpi_layout::rsdt::{RsdtImage, lay_reduced_rsdt, lay_rsdt};
     pub use acpi_layout::rsdt_fault::RsdtFault;
 }

@@ -3,7 +3,8 @@ use Rattle.std.proofs.Common.{◌≡◌, ℕ, zero, suc, ◌+◌, ◌-◌, ◌<�
 use Rattle.std.proofs.lemmas.List.{append-nil, nil_from_length, length-drop}
 use Rattle.std.specs.Prelude.{if◌then◌else◌}
 use Rattle.acpi_tree.specs.Graph.{targets}
-use Rattle.acpi_tree.specs.Tree.{line, has_full, walk, visit, spaces, places_from}
+use Rattle.acpi_tree.specs.Spaces.{spaces}
+use Rattle.acpi_tree.specs.Tree.{line, has_full, walk, visit, places_from}
 use Rattle.acpi_tree.specs.declared.graph.Edge.{Edge}
 use Rattle.acpi_tree.specs.declared.graph.Node.{Node}
 use Rattle.acpi_tree.specs.declared.tree.Line.{Line}

@@ -4,7 +4,10 @@ use Rattle.std.specs.Prelude.{List, [], ◌∷◌, ◌++◌, length, Option, Som
 use Rattle.std.specs.Fmt.{decimal}
 use Rattle.std.specs.List.{flat_map, slice_get}
 use Rattle.acpi_base.specs.declared.walk.Walk.{Walk}
+use Rattle.acpi_rules.specs.Item.{Item}
 use Rattle.acpi_tree.specs.Graph.{nodes_of, edges_of, targets, is_target}
+use Rattle.acpi_tree.specs.Named.{named_in, name_lines}
+use Rattle.acpi_tree.specs.Spaces.{spaces}
 use Rattle.acpi_tree.specs.declared.graph.Edge.{Edge}
 use Rattle.acpi_tree.specs.declared.graph.Node.{Node}
 use Rattle.acpi_tree.specs.declared.tree.Line.{Line}
@@ -65,24 +68,27 @@ type_text node = codes " type " ++ decimal node.kind
 abbrev pub node_text : Node → List ℕ
 node_text node = decimal node.at ++ type_text node ++ size_text node
 
-abbrev pub spaces : ℕ → List ℕ
-spaces zero = []
-spaces (suc n) = 32 ∷ 32 ∷ spaces n
-
 abbrev pub shown : Bool → Node → List ℕ
 shown true node = node_text node
 shown false node = decimal node.at ++ codes " above"
 
-abbrev pub line_of : Line → Option Node → List ℕ
-line_of one None = []
-line_of one (Some node) = spaces one.depth ++ shown one.full node ++ codes "\n"
+-- the numbers in it that other tables define, if it is shown in full
+abbrev pub names_of : List Item → ℕ → Bool → Node → List ℕ
+names_of items depth true node = name_lines depth node items
+names_of items depth false node = []
 
-abbrev pub line_text : List Node → Line → List ℕ
-line_text nodes one = line_of one (slice_get nodes one.index)
+abbrev pub line_of : List Item → Line → Option Node → List ℕ
+line_of items one None = []
+line_of items one (Some node) =
+    spaces one.depth ++ shown one.full node ++ codes "\n" ++ names_of items one.depth one.full node
 
-abbrev pub lines_text : List Node → List Line → List ℕ
-lines_text nodes lines = flat_map (line_text nodes) lines
+abbrev pub line_text : List Item → List Node → Line → List ℕ
+line_text items nodes one = line_of items one (slice_get nodes one.index)
+
+abbrev pub lines_text : List Item → List Node → List Line → List ℕ
+lines_text items nodes lines = flat_map (line_text items nodes) lines
 
 -- the tree of a table
 abbrev pub tree_text : Walk → List ℕ → List ℕ
-tree_text walk table = lines_text (nodes_of walk table) (tree_lines (nodes_of walk table) (edges_of walk table))
+tree_text walk table =
+    lines_text (named_in table) (nodes_of walk table) (tree_lines (nodes_of walk table) (edges_of walk table))

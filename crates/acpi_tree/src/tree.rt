@@ -1,14 +1,18 @@
 //! The tree of the structures of a table. A function whose name begins with `push` adds to lines or to a text.
 
-ghost use Rattle.std.specs.Prelude.{◌≡◌, ◌+◌, ◌<◌, ◌^◌, ◌++◌, ◌∷◌, [], length, codes, IfOk, OnOk};
+ghost use Rattle.std.specs.Prelude.{◌≡◌, ◌+◌, ◌<◌, ◌^◌, ◌++◌, ◌∷◌, [], length, map, Some, codes, IfOk, OnOk};
 ghost use Rattle.std.specs.Fmt.{decimal};
 ghost use Rattle.std.specs.List.{flat_map};
 ghost use Rattle.acpi_tree.specs.Tree.{line, has_full, walk, visit, levels, visit_new, places_from, roots_from, tree_lines};
-ghost use Rattle.acpi_tree.specs.Tree.{size_text, type_text, node_text, spaces, shown, line_text, lines_text, tree_text};
+ghost use Rattle.acpi_rules.specs.Item.{item_by};
+ghost use Rattle.acpi_tree.specs.Spaces.{spaces};
+ghost use Rattle.acpi_tree.specs.Tree.{size_text, type_text, node_text, shown, names_of, line_of, line_text, lines_text, tree_text};
 
 use crate::graph::{Edge, Node, edges_of, is_target, nodes_of, targets};
+use crate::named::{named_in, push_names};
 use acpi_base::walk::Walk;
 use acpi_json::number::push_size;
+use acpi_rules::item::Item;
 use std::alloc::{AllocError, Global};
 
 /// A line of a tree.
@@ -191,8 +195,9 @@ pub fn push_node(node: &Node, text: &mut Vec<u8>) -> Result<(), AllocError>
     push_node_size(node, text)
 }
 
+/// Adds two spaces for each level.
 #[cycle(spaces)]
-fn push_spaces(depth: usize, text: &mut Vec<u8>) -> Result<(), AllocError>
+pub fn push_spaces(depth: usize, text: &mut Vec<u8>) -> Result<(), AllocError>
     ensures { OnOk result (text.new.items ≡ text.old.items ++ spaces depth) }
 {
     if depth == 0 {
@@ -213,43 +218,76 @@ fn push_shown(full: bool, node: &Node, text: &mut Vec<u8>) -> Result<(), AllocEr
     text.extend_from_slice(b" above")
 }
 
-// Adds the line of a structure.
-fn push_line_of(line: &Line, node: &Node, text: &mut Vec<u8>) -> Result<(), AllocError>
+// Adds the numbers in a structure that other tables define, if it is shown in full.
+fn push_names_of(
+    items: &[Item<'_>],
+    line: &Line,
+    node: &Node,
+    text: &mut Vec<u8>,
+) -> Result<(), AllocError>
     ensures { OnOk result (text.new.items ≡ text.old.items
-        ++ (spaces line.now.depth ++ shown line.now.full node.now ++ codes "\n")) }
+        ++ names_of (map item_by items.now) line.now.depth line.now.full node.now) }
+{
+    if line.full {
+        return push_names(line.depth, node, items, text);
+    }
+    Ok(())
+}
+
+// Adds the lines of a structure.
+fn push_line_of(
+    items: &[Item<'_>],
+    line: &Line,
+    node: &Node,
+    text: &mut Vec<u8>,
+) -> Result<(), AllocError>
+    ensures { OnOk result (text.new.items ≡ text.old.items ++ line_of (map item_by items.now) line.now (Some node.now)) }
 {
     push_spaces(line.depth, text)?;
     push_shown(line.full, node, text)?;
-    text.extend_from_slice(b"\n")
+    text.extend_from_slice(b"\n")?;
+    push_names_of(items, line, node, text)
 }
 
-fn push_line_text(nodes: &[Node], line: &Line, text: &mut Vec<u8>) -> Result<(), AllocError>
-    ensures { OnOk result (text.new.items ≡ text.old.items ++ line_text nodes.now line.now) }
+fn push_line_text(
+    items: &[Item<'_>],
+    nodes: &[Node],
+    line: &Line,
+    text: &mut Vec<u8>,
+) -> Result<(), AllocError>
+    ensures { OnOk result (text.new.items ≡ text.old.items ++ line_text (map item_by items.now) nodes.now line.now) }
 {
     match nodes.get(line.index) {
-        Some(node) => push_line_of(line, node, text),
+        Some(node) => push_line_of(items, line, node, text),
         None => Ok(()),
     }
 }
 
-fn push_lines(nodes: &[Node], lines: &[Line], text: &mut Vec<u8>) -> Result<(), AllocError>
-    ensures { OnOk result (text.new.items ≡ text.old.items ++ lines_text nodes.now lines.now) }
+fn push_lines(
+    items: &[Item<'_>],
+    nodes: &[Node],
+    lines: &[Line],
+    text: &mut Vec<u8>,
+) -> Result<(), AllocError>
+    ensures { OnOk result (text.new.items ≡ text.old.items ++ lines_text (map item_by items.now) nodes.now lines.now) }
 {
     'lines: for line in lines {
-        push_line_text(nodes, line, text)?;
+        push_line_text(items, nodes, line, text)?;
     }
     Ok(())
 }
 
 /// Returns the tree of the structures of a table: a line for each, with its offset, its type and its size. Below a structure, two
-/// spaces further in, are those to which it refers. One that was shown before has a line that says so.
+/// spaces further in, are the numbers in it that other tables define, and then the structures to which it refers. One that was
+/// shown before has a line that says so.
 pub fn tree_of(alloc: Global, walk: Walk, table: &[u8]) -> Result<Vec<u8>, AllocError>
     ensures { IfOk result (λ text. text.items ≡ tree_text walk table.now) }
 {
     let nodes = nodes_of(alloc, walk, table)?;
     let edges = edges_of(alloc, walk, table)?;
     let lines = tree_lines(alloc, &nodes, &edges)?;
+    let items = named_in(alloc, table)?;
     let mut text = Vec::new(alloc);
-    push_lines(&nodes, &lines, &mut text)?;
+    push_lines(&items, &nodes, &lines, &mut text)?;
     Ok(text)
 }

@@ -2,7 +2,6 @@
 use Rattle.std.proofs.Common.{◌≡◌, ◌⊎◌, ℕ, ◌<◌, Bool, true, false, List, [], ◌∷◌, ◌++◌, ◌+◌, Option, None, length, take, drop, map, get_or, sym, ap, subst, ◌∙◌, inl, inr, Result, Ok, Err, MatchResult}
 use Rattle.std.proofs.lemmas.List.{at_drop_more, map-append, map_more, take-append-drop}
 use Rattle.std.specs.Io.KnownBytes.{Keeps, Appends}
-use Rattle.acpi_forms.specs.Kind.{kind_of}
 use Rattle.acpi_layout.specs.Files.{IsLaid}
 use Rattle.acpi_layout.specs.declared.layout.Image.{Image}
 use Rattle.acpi_layout.specs.declared.located.Located.{Located}
@@ -10,12 +9,11 @@ use Rattle.acpi_make.specs.declared.extent.Own.{Own}
 use Rattle.acpitool_program.proofs.Archives.{saved_then, not_saved_then}
 use Rattle.acpitool_program.proofs.Streams.{keeps_kept, keeps_then, appends_nothing}
 use Rattle.acpitool_program.specs.Image.{IsFoundImage}
-use Rattle.acpitool_program.specs.Laying.{is_text, IsTableOf, AreOfText, IsFile, IsNoFile, IsUnmade}
+use Rattle.acpitool_program.specs.Laying.{is_text, IsTableOf, AreOfText, MayBeLaid, IsFile, IsNoFile, IsUnmade}
 use Rattle.acpitool_program.specs.Laying.{AreFiles, IsRefused, IsMisread, IsNotFound, HaveNoneLaid, IsNotLaid, IsFoundOf, IsImageOf}
 use Rattle.acpitool_program.specs.Laying.{IsSavedTo, IsSaved, IsLaidOut}
 use Rattle.acpitool_program.specs.Making.{IsChecked, warnings, IsJudged, MadeText, Held, NotMade}
 use Rattle.acpitool_program.specs.Structures.{IsSoundOr}
-use Rattle.acpitool_program.specs.Text.{IsKind}
 use Rattle.acpitool_program.specs.declared.fault.Fault.{Fault}
 
 -- ---- files
@@ -43,21 +41,21 @@ made_then path text bytes a b one =
 
 -- a file of its own bytes, and that of a text's table
 pub plain_file : {Y : Type 0} (g : Y → List ℕ) (path : List ℕ) (bytes : Y) (found : Result Y ℕ) (a b : Option (List ℕ)) → is_text path ≡ false
-    → MatchResult found (λ file. (file ≡ bytes) × IsKind (kind_of (g file)) (g file) × Keeps a b) (λ status. IsNoFile path (g bytes) a b status)
+    → MatchResult found (λ file. (file ≡ bytes) × MayBeLaid (g file) × Keeps a b) (λ status. IsNoFile path (g bytes) a b status)
     → MatchResult found (λ file. IsFile path (g file) × Keeps a b) (λ status. IsRefused path a b status)
 plain_file g path bytes (Ok file) a b plain read =
     let P : Bool → Type 0 = λ t. AreOfText t (g file) in
-    (record { of = subst P (sym plain) tt; kind = read.1 }, read.2)
+    (record { of = subst P (sym plain) tt; may_be = read.1 }, read.2)
 plain_file g path bytes (Err status) a b plain not = inl (g bytes, not)
 
 pub text_file : {Y : Type 0} (g : Y → List ℕ) (path text : List ℕ) (table : Y) (found : Result Y ℕ) (a b c : Option (List ℕ)) → is_text path ≡ true
     → IsTableOf text (g table) × Keeps a b
-    → MatchResult found (λ file. (file ≡ table) × IsKind (kind_of (g file)) (g file) × Keeps b c) (λ status. IsNoFile path (g table) b c status)
+    → MatchResult found (λ file. (file ≡ table) × MayBeLaid (g file) × Keeps b c) (λ status. IsNoFile path (g table) b c status)
     → MatchResult found (λ file. IsFile path (g file) × Keeps a c) (λ status. IsRefused path a c status)
 text_file g path text table (Ok file) a b c textual made read =
     let P : Bool → Type 0 = λ t. AreOfText t (g file) in
     let Q : List ℕ → Type 0 = λ l. IsTableOf text l in
-    (record { of = subst P (sym textual) (text, subst Q (ap g (sym read.0)) made.0); kind = read.1 }, keeps_kept a b c made.1 read.2)
+    (record { of = subst P (sym textual) (text, subst Q (ap g (sym read.0)) made.0); may_be = read.1 }, keeps_kept a b c made.1 read.2)
 text_file g path text table (Err status) a b c textual made not = inl (
   g table,
   record { fault = not.fault; cause = not.cause; complained = keeps_then a b c _ made.1 not.complained; is = not.is },

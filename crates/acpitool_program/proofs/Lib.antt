@@ -1,5 +1,6 @@
 mod Archives
 mod Blocks
+mod Broken
 mod Commands
 mod Judged
 mod Kept

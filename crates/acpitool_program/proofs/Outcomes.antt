@@ -7,11 +7,15 @@ use Rattle.acpi_dump.specs.Dump.{titled, is_dump, tables_of}
 use Rattle.acpi_dump.specs.declared.dump.Dumped.{Dumped}
 use Rattle.acpi_dump.specs.Fault.{text_of}
 use Rattle.acpi_dump.specs.declared.fault.DumpFault.{DumpFault}
+use Rattle.acpi_layout.specs.Addresses.{image_at}
+use Rattle.acpi_layout.specs.declared.located.Located.{Located}
 use Rattle.acpi_rules.specs.Finding.{Finding}
 use Rattle.acpitool_program.specs.Checked.{AreFindings, printed_findings, finding_status}
+use Rattle.acpitool_program.specs.Image.{IsFoundImage}
 use Rattle.acpitool_program.specs.Job.{Job, shows, checks, lists}
 use Rattle.acpitool_program.specs.Object.{IsObject}
-use Rattle.acpitool_program.specs.Outcome.{Outcome, shown, checked, listed, refused, broken, unread, output, complaint, status, outputs, complaints, worst}
+use Rattle.acpitool_program.specs.Outcome.{Outcome, shown, checked, listed, refused, broken, imageless, unread}
+use Rattle.acpitool_program.specs.Outcome.{output, complaint, status, outputs, complaints, worst, AreOfImage, AreOfImageFile, AreOfPlaced, in_image}
 use Rattle.acpitool_program.specs.Outcome.{heading, labelled, fault_line, fault_status, AreTrueOutcomes, AreEach, AreOfTables, AreOfDump, AreOfBytesBy, AreOfBytes}
 use Rattle.acpitool_program.specs.Outcome.{IsUnread, AreOfFile, AreGroups, joined, AreOfEach, Printed, PrintedAs}
 use Rattle.acpitool_program.specs.Outcome.{checked_of, checked_in, KeptAs}
@@ -19,11 +23,13 @@ use Rattle.acpitool_program.specs.Program.{IsShown, NotStated, IsMisstatedAs, wr
 use Rattle.acpitool_program.specs.declared.command.Wrong.{Wrong}
 use Rattle.acpi_forms.specs.Kind.{kind_of}
 use Rattle.acpitool_program.specs.Fault.{line_of}
+use Rattle.acpitool_program.specs.Listing.{IsNoImage, why}
 use Rattle.acpitool_program.specs.Structures.{HasFault}
 use Rattle.acpitool_program.specs.Terms.{IsAfter}
 use Rattle.acpitool_program.proofs.Streams.{appends_none, appends_then}
 use Rattle.acpitool_program.specs.Text.{IsTextAs, IsTextFault}
 use Rattle.acpitool_program.specs.declared.fault.Fault.{Fault}
+use Rattle.acpitool_program.specs.declared.image.NoImage.{NoImage}
 
 -- ---- lists of outcomes
 
@@ -101,6 +107,7 @@ none_shown bare stated (checked json name bytes found fault ∷ more) all = absu
 none_shown bare stated (listed name bytes object fault ∷ more) all = none_shown bare stated more all.1
 none_shown bare stated (refused name bytes fault ∷ more) all = none_shown bare stated more all.1
 none_shown bare stated (broken name dump fault ∷ more) all = none_shown bare stated more all.1
+none_shown bare stated (imageless name base bytes fault ∷ more) all = none_shown bare stated more all.1
 none_shown bare stated (unread name why ∷ more) all = none_shown bare stated more all.1
 
 -- nor is what is listed
@@ -111,6 +118,7 @@ none_listed (checked json name bytes found fault ∷ more) all = absurd all.0.0
 none_listed (listed name bytes object fault ∷ more) all = none_listed more all.1
 none_listed (refused name bytes fault ∷ more) all = none_listed more all.1
 none_listed (broken name dump fault ∷ more) all = none_listed more all.1
+none_listed (imageless name base bytes fault ∷ more) all = none_listed more all.1
 none_listed (unread name why ∷ more) all = none_listed more all.1
 
 pub shown_keep : {job : Job} {bare : Bool} {stated : List (List ℕ × ℕ)} {P : List Outcome → Type 0} {o o' e e' : Option (List ℕ)} {s : ℕ}
@@ -238,6 +246,23 @@ one_broken job out err err' kept name dump why fault is says wrote =
       keeps = sym (append-nil kept);
     }
 
+pub one_imageless : (job : Job) (out err err' : Option (List ℕ)) (kept : List (List ℕ × List ℕ)) (name : List ℕ) (base : ℕ) (bytes : List ℕ)
+    (fault : NoImage) (s : ℕ) → IsNoImage base bytes fault → Appends err err' (name ++ codes ": " ++ why base fault ++ 10 ∷ []) → s ≡ 1
+    → KeptAs job (AreOfImage name base bytes) out out err err' kept kept s
+one_imageless job out err err' kept name base bytes fault s none wrote is =
+    let P : List ℕ → Type 0 = λ l. Appends err err' l in
+    record {
+      outcomes = imageless name base bytes fault ∷ [];
+      are = inr (fault, refl);
+      printed = record {
+        are = (none, tt);
+        wrote = appends_none out;
+        complained = subst P (sym (append-nil (name ++ codes ": " ++ why base fault ++ 10 ∷ []))) wrote;
+        is = is;
+      };
+      keeps = sym (append-nil kept);
+    }
+
 pub one_unread : (job : Job) (out err err' : Option (List ℕ)) (kept : List (List ℕ × List ℕ)) (name why : List ℕ) (s : ℕ)
     → Appends err err' (name ++ codes ": " ++ why ++ 10 ∷ []) → s ≡ 2 → KeptAs job (IsUnread name) out out err err' kept kept s
 one_unread job out err err' kept name why s wrote is =
@@ -289,6 +314,12 @@ dump_tables name dump items is outcomes are =
     let P : List (List ℕ × List ℕ) → Type 0 = λ l. AreOfTables true l outcomes in
     inl (map titled items, is, subst P (sym (map-map (labelled name) titled items)) are)
 
+-- those of an image
+pub image_tables : (name : List ℕ) (base : ℕ) (bytes : List ℕ) (tables : List Located) → IsFoundImage base bytes tables
+    → (outcomes : List Outcome) → AreOfTables true (map (in_image name (image_at base bytes)) tables) outcomes
+    → AreOfImage name base bytes outcomes
+image_tables name base bytes tables found outcomes are = inl (tables, found, are)
+
 -- ---- files
 
 -- a file that is a table
@@ -307,6 +338,14 @@ dump_bytes several name bytes dumps outcomes are =
 pub file_bytes : (several : Bool) (name bytes : List ℕ) (outcomes : List Outcome) → AreOfBytes several name bytes outcomes
     → AreOfFile several name outcomes
 file_bytes several name bytes outcomes are = inl (bytes, are)
+
+-- those of a file with an image
+pub image_bytes : (file : List ℕ) (base : ℕ) (bytes : List ℕ) (outcomes : List Outcome) → AreOfImage file base bytes outcomes
+    → AreOfImageFile file base outcomes
+image_bytes file base bytes outcomes are = inl (bytes, are)
+
+pub image_unread : (file : List ℕ) (base : ℕ) (outcomes : List Outcome) → IsUnread file outcomes → AreOfImageFile file base outcomes
+image_unread file base outcomes are = inr are
 
 pub if_err : {T E P : Type 0} (read : Result T E) → P → IfErr read (λ _. P)
 if_err (Ok value) known = tt

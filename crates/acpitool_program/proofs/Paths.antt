@@ -3,7 +3,8 @@ use Rattle.std.proofs.Common.{◌≡◌, ℕ, ◌++◌, List, [], ◌∷◌, Boo
 use Rattle.std.proofs.lemmas.Bool.Decides.{nat_tests}
 use Rattle.std.specs.List.{starts_with}
 use Rattle.acpi_read.specs.Report.{printable}
-use Rattle.acpitool_program.specs.Unpacking.{letter, stem, count, number, path_of}
+use Rattle.acpi_tree.specs.Image.{letter}
+use Rattle.acpitool_program.specs.Unpacking.{stem, count, number, path_of}
 
 letter_prints : (c : ℕ) → printable (letter c) ≡ letter c
 letter_prints c = grind (arith, nat_tests)

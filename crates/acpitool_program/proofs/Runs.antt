@@ -7,7 +7,7 @@ use Rattle.acpitool_program.specs.Checking.{AreChecked}
 use Rattle.acpitool_program.specs.Disassembly.{DisassemblesFile}
 use Rattle.acpi_asl.specs.declared.block.BlockText.{BlockText}
 use Rattle.acpi_asl.specs.declared.block.BlockText.TheVariants as blocks
-use Rattle.acpitool_program.specs.Drawing.{Draws}
+use Rattle.acpitool_program.specs.Drawing.{Draws, DrawsFile, DrawsImage}
 use Rattle.acpitool_program.specs.Job.{Job, shows}
 use Rattle.acpitool_program.specs.Listing.{Listed}
 use Rattle.acpitool_program.specs.Making.{MakesWord, Makes}
@@ -167,13 +167,13 @@ made_kept force name file o o' o'' e e' s kept (inl its) = inl (record {
 })
 made_kept force name file o o' o'' e e' s kept (inr word) = inr (word_kept force name file o o' o'' e e' s kept word)
 
-drawn_kept : (dot : Bool) (name : List ℕ) (o o' o'' e e' : Option (List ℕ)) (s : ℕ) → Keeps o' o''
-    → Draws dot name o o' e e' s → Draws dot name o o'' e e' s
-drawn_kept dot name o o' o'' e e' s kept (inl (bytes, inl all)) = inl (
+file_drawn_kept : (dot : Bool) (name : List ℕ) (o o' o'' e e' : Option (List ℕ)) (s : ℕ) → Keeps o' o''
+    → DrawsFile dot name o o' e e' s → DrawsFile dot name o o'' e e' s
+file_drawn_kept dot name o o' o'' e e' s kept (inl (bytes, inl all)) = inl (
   bytes,
   inl (record { walk = all.walk; has = all.has; wrote = appends_kept o o' o'' _ all.wrote kept; silent = all.silent; is = all.is }),
 )
-drawn_kept dot name o o' o'' e e' s kept (inl (bytes, inr not)) = inl (
+file_drawn_kept dot name o o' o'' e e' s kept (inl (bytes, inr not)) = inl (
   bytes,
   inr (record {
     fault = not.fault;
@@ -183,7 +183,31 @@ drawn_kept dot name o o' o'' e e' s kept (inl (bytes, inr not)) = inl (
     is = not.is;
   }),
 )
-drawn_kept dot name o o' o'' e e' s kept (inr not) = inr (unread_kept name o o' o'' e e' s kept not)
+file_drawn_kept dot name o o' o'' e e' s kept (inr not) = inr (unread_kept name o o' o'' e e' s kept not)
+
+image_drawn_kept : (dot : Bool) (name : List ℕ) (base : ℕ) (o o' o'' e e' : Option (List ℕ)) (s : ℕ) → Keeps o' o''
+    → DrawsImage dot name base o o' e e' s → DrawsImage dot name base o o'' e e' s
+image_drawn_kept dot name base o o' o'' e e' s kept (inl (bytes, inl all)) = inl (
+  bytes,
+  inl (record { tables = all.tables; found = all.found; wrote = appends_kept o o' o'' _ all.wrote kept; silent = all.silent; is = all.is }),
+)
+image_drawn_kept dot name base o o' o'' e e' s kept (inl (bytes, inr not)) = inl (
+  bytes,
+  inr (record {
+    fault = not.fault;
+    cause = not.cause;
+    complained = not.complained;
+    silent = keeps_kept o o' o'' not.silent kept;
+    is = not.is;
+  }),
+)
+image_drawn_kept dot name base o o' o'' e e' s kept (inr not) = inr (unread_kept name o o' o'' e e' s kept not)
+
+drawn_kept : (dot : Bool) (word : List ℕ) (o o' o'' e e' : Option (List ℕ)) (s : ℕ) → Keeps o' o''
+    → Draws dot word o o' e e' s → Draws dot word o o'' e e' s
+drawn_kept dot word o o' o'' e e' s kept (inl file) = inl (file_drawn_kept dot word o o' o'' e e' s kept file)
+drawn_kept dot word o o' o'' e e' s kept (inr (file, base, is, image)) =
+    inr (file, base, is, image_drawn_kept dot file base o o' o'' e e' s kept image)
 
 templated_kept : (known : Bool) (signature : List ℕ) (o o' o'' e e' : Option (List ℕ)) (s : ℕ) → Keeps o' o''
     → IsTemplated known signature o o' e e' s → IsTemplated known signature o o'' e e' s

@@ -3,7 +3,7 @@ use Rattle.std.proofs.Common.{◌≡◌, ◌∙◌, List, ℕ, Result, Ok, Err, 
 use Rattle.acpi_forms.specs.Kind.{kind_of}
 use Rattle.acpi_forms.specs.Words.{words_by}
 use Rattle.acpi_make.specs.declared.file_kind.FileKind.{FileKind}
-use Rattle.acpi_make.specs.declared.file_kind.FileKind.TheVariants.{Rsdp, Facs, Table}
+use Rattle.acpi_make.specs.declared.file_kind.FileKind.TheVariants.{Rsdp, Facs, Cdat, S3pt, Table}
 use Rattle.acpi_term.specs.declared.read_error.ReadError.TheVariants.{Memory}
 use Rattle.acpitool_program.specs.Fault.{IsFaultOf}
 use Rattle.acpitool_program.specs.Text.{IsTextFault}
@@ -13,6 +13,8 @@ use Rattle.acpitool_program.specs.declared.fault.Fault.{Fault}
 same_words : (kind : FileKind) → words_by kind Memory ≡ words_by Table Memory
 same_words Rsdp = refl
 same_words Facs = refl
+same_words Cdat = refl
+same_words S3pt = refl
 same_words Table = refl
 
 pub memory_is_fault : {T : Type 0} (bytes : List ℕ) (result : Result T Fault) → IfErr result (IsFaultOf Table Memory)

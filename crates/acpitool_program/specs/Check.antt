@@ -18,3 +18,14 @@ pub record IsPointer (bytes : List ℕ) : Type 0 where
 pub record IsControl (bytes : List ℕ) : Type 0 where
   pub some : 64 ≤ length bytes
   pub whole : field_at 4 4 bytes ≡ length bytes
+
+-- a Coherent Device Attribute Table (CDAT 1.03), but for its revision and its reserved bytes
+pub record IsCoherent (bytes : List ℕ) : Type 0 where
+  pub some : 16 ≤ length bytes
+  pub whole : field_at 0 4 bytes ≡ length bytes
+  pub sums : sum bytes % 256 ≡ 0
+
+-- an S3 Performance Table (ACPI 6.5, 5.2.24), but for its signature
+pub record IsPerformance (bytes : List ℕ) : Type 0 where
+  pub some : 8 ≤ length bytes
+  pub whole : field_at 4 4 bytes ≡ length bytes

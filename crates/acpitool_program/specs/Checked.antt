@@ -1,13 +1,15 @@
 -- What is printed of a table that is checked.
-use Rattle.std.specs.Prelude.{◌≡◌, ℕ, Bool, true, false, List, [], ◌∷◌, ◌++◌, map, take, Option, None, codes}
+use Rattle.std.specs.Prelude.{◌≡◌, ℕ, Bool, true, false, List, [], ◌∷◌, ◌++◌, map, Option, Some, None, codes}
 use Rattle.std.specs.List.{flat_map}
 use Rattle.acpi_base.specs.Bytes.{field_at}
 use Rattle.acpi_base.specs.FurtherWalk.{table_walk_of}
 use Rattle.acpi_base.specs.declared.walk.Walk.{Walk}
-use Rattle.acpi_forms.specs.Kind.{kind_of}
+use Rattle.acpi_forms.specs.Kind.{kind_of, title_of}
+use Rattle.acpi_forms.specs.FurtherNames.{cdat_names, s3pt_names}
 use Rattle.acpi_forms.specs.Named.{Named, IsNamed, names_of, rsdp_names, facs_names}
+use Rattle.acpi_forms.specs.Walks.{cdat_walk, s3pt_walk}
 use Rattle.acpi_make.specs.declared.file_kind.FileKind.{FileKind}
-use Rattle.acpi_make.specs.declared.file_kind.FileKind.TheVariants.{Rsdp, Facs, Table}
+use Rattle.acpi_make.specs.declared.file_kind.FileKind.TheVariants.{Rsdp, Facs, Cdat, S3pt, Table}
 use Rattle.acpi_read.specs.Report.{printable}
 use Rattle.acpi_rules.specs.Finding.{Finding}
 use Rattle.acpi_rules.specs.Line.{finding_text}
@@ -26,6 +28,8 @@ pub record AreByForm (names : Named) (walk : Option Walk) (bytes : List ℕ) (fi
 abbrev pub AreBy : FileKind → List ℕ → List Finding → Type 0
 AreBy Rsdp bytes findings = AreByForm rsdp_names None bytes findings
 AreBy Facs bytes findings = AreByForm facs_names None bytes findings
+AreBy Cdat bytes findings = AreByForm cdat_names (Some cdat_walk) bytes findings
+AreBy S3pt bytes findings = AreByForm s3pt_names (Some s3pt_walk) bytes findings
 AreBy Table bytes findings =
     AreByForm (names_of (field_at 0 4 bytes)) (table_walk_of (field_at 0 4 bytes)) bytes findings
 
@@ -41,7 +45,7 @@ finding_line name signature finding =
 
 -- the lines of the findings of bytes
 abbrev pub finding_lines : List ℕ → List ℕ → List Finding → List ℕ
-finding_lines name bytes findings = flat_map (finding_line name (take 4 bytes)) findings
+finding_lines name bytes findings = flat_map (finding_line name (title_of bytes)) findings
 
 -- the object of a finding, in a line
 unfoldable pub object_line : List ℕ → List ℕ → Finding → List ℕ
@@ -49,7 +53,7 @@ object_line name signature finding = object name signature finding ++ 10 ∷ []
 
 -- the objects of the findings of bytes
 abbrev pub finding_objects : List ℕ → List ℕ → List Finding → List ℕ
-finding_objects name bytes findings = flat_map (object_line name (take 4 bytes)) findings
+finding_objects name bytes findings = flat_map (object_line name (title_of bytes)) findings
 
 -- what is printed of findings: objects, or lines
 abbrev pub printed_findings : Bool → List ℕ → List ℕ → List Finding → List ℕ

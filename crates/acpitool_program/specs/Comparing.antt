@@ -1,13 +1,15 @@
 -- The fields in which the tables in two files differ.
-use Rattle.std.specs.Prelude.{◌≡◌, ◌≢◌, ◌⊎◌, ℕ, List, [], ◌∷◌, ◌++◌, map, take, Option, None, codes}
+use Rattle.std.specs.Prelude.{◌≡◌, ◌≢◌, ◌⊎◌, ℕ, List, [], ◌∷◌, ◌++◌, map, Option, Some, None, codes}
 use Rattle.std.specs.Io.KnownBytes.{Keeps, Appends}
 use Rattle.acpi_base.specs.Bytes.{field_at}
 use Rattle.acpi_base.specs.FurtherWalk.{table_walk_of}
 use Rattle.acpi_base.specs.declared.walk.Walk.{Walk}
-use Rattle.acpi_forms.specs.Kind.{kind_of}
+use Rattle.acpi_forms.specs.Kind.{kind_of, title_of}
+use Rattle.acpi_forms.specs.FurtherNames.{cdat_names, s3pt_names}
 use Rattle.acpi_forms.specs.Named.{Named, IsNamed, names_of, rsdp_names, facs_names}
+use Rattle.acpi_forms.specs.Walks.{cdat_walk, s3pt_walk}
 use Rattle.acpi_make.specs.declared.file_kind.FileKind.{FileKind}
-use Rattle.acpi_make.specs.declared.file_kind.FileKind.TheVariants.{Rsdp, Facs, Table}
+use Rattle.acpi_make.specs.declared.file_kind.FileKind.TheVariants.{Rsdp, Facs, Cdat, S3pt, Table}
 use Rattle.acpi_read.specs.Report.{printable}
 use Rattle.acpi_rules.specs.Difference.{AreLines}
 use Rattle.acpi_rules.specs.Field.{Field, table_fields}
@@ -29,6 +31,8 @@ pub record AreByForm (names : Named) (walk : Option Walk) (bytes : List ℕ) (fi
 abbrev pub AreFieldsBy : FileKind → List ℕ → List Field → Type 0
 AreFieldsBy Rsdp bytes fields = AreByForm rsdp_names None bytes fields
 AreFieldsBy Facs bytes fields = AreByForm facs_names None bytes fields
+AreFieldsBy Cdat bytes fields = AreByForm cdat_names (Some cdat_walk) bytes fields
+AreFieldsBy S3pt bytes fields = AreByForm s3pt_names (Some s3pt_walk) bytes fields
 AreFieldsBy Table bytes fields = AreByForm (names_of (field_at 0 4 bytes)) (table_walk_of (field_at 0 4 bytes)) bytes fields
 
 abbrev pub AreFields : List ℕ → List Field → Type 0
@@ -39,7 +43,7 @@ AreFields bytes fields = AreFieldsBy (kind_of bytes) bytes fields
 -- the line of tables with different signatures, in which a question mark stands for what doesn't print
 abbrev pub signatures_line : List ℕ → List ℕ → List ℕ
 signatures_line a b =
-    codes "the signatures differ: " ++ map printable (take 4 a) ++ codes ", " ++ map printable (take 4 b) ++ 10 ∷ []
+    codes "the signatures differ: " ++ map printable (title_of a) ++ codes ", " ++ map printable (title_of b) ++ 10 ∷ []
 
 -- the lines of the fields of tables that differ, or one line if no field does
 abbrev pub or_nameless : List ℕ → List ℕ
@@ -61,8 +65,8 @@ pub record AreDifferences (a b text : List ℕ) : Type 0 where
 abbrev pub IsComparison : List ℕ → List ℕ → List ℕ → Type 0
 IsComparison a b text =
     ((a ≡ b) × (text ≡ []))
-    ⊎ ((a ≢ b) × (take 4 a ≢ take 4 b) × (text ≡ signatures_line a b))
-    ⊎ ((a ≢ b) × (take 4 a ≡ take 4 b) × AreDifferences a b text)
+    ⊎ ((a ≢ b) × (title_of a ≢ title_of b) × (text ≡ signatures_line a b))
+    ⊎ ((a ≢ b) × (title_of a ≡ title_of b) × AreDifferences a b text)
 
 -- 0 if nothing is printed, and 1 otherwise
 abbrev pub comparison_status : List ℕ → ℕ

@@ -8,8 +8,11 @@ use Rattle.std.specs.Str.{bytes_eq}
 use Rattle.acpi_json.specs.Array.{array}
 use Rattle.acpi_json.specs.Finding.{member}
 use Rattle.acpi_json.specs.Text.{string}
-use Rattle.acpi_layout.specs.Found.{IsImage}
+use Rattle.acpi_base.specs.Bytes.{field_at}
+use Rattle.acpi_layout.specs.Found.{IsImageOf}
 use Rattle.acpi_layout.specs.declared.located.Located.{Located}
+use Rattle.acpi_layout.specs.declared.root.Root.{Root}
+use Rattle.acpi_layout.specs.declared.root.Root.TheVariants.{Xsdt, Rsdt}
 use Rattle.acpi_read.specs.Report.{printable}
 use Rattle.acpitool_program.specs.Check.{IsPointer}
 
@@ -82,9 +85,23 @@ abbrev pub tables_text : Bool → ℕ → List ℕ → List Located → List ℕ
 tables_text true base bytes tables = array (table_objects base bytes tables)
 tables_text false base bytes tables = table_lines base bytes tables
 
+-- ---- the image
+
+-- The first pointer to an XSDT, which has 36 bytes, is at this offset. If there is none, it is the first pointer to an RSDT, which
+-- has 20.
+abbrev pub IsFirstPointerTo : Root → List ℕ → ℕ → Type 0
+IsFirstPointerTo Xsdt bytes at = IsFirstPointer 36 bytes at
+IsFirstPointerTo Rsdt bytes at = HasNoPointer 36 bytes × IsFirstPointer 20 bytes at
+
+-- the address in a pointer at an offset
+abbrev pub root_address : Root → ℕ → List ℕ → ℕ
+root_address Xsdt at bytes = field_at (at + 24) 8 bytes
+root_address Rsdt at bytes = field_at (at + 16) 4 bytes
+
 -- The bytes are an image from this base on, whose first pointer leads to these tables.
 pub record IsFoundImage (base : ℕ) (bytes : List ℕ) (tables : List Located) : Type 0 where
+  pub root : Root
   pub at : ℕ
-  pub first : IsFirstPointer 36 bytes at
+  pub first : IsFirstPointerTo root bytes at
   pub fits : base + at < 2 ^ 64
-  pub image : IsImage bytes base (base + at) tables
+  pub image : IsImageOf root bytes base (base + at) tables

@@ -12,9 +12,11 @@ use Rattle.acpi_layout.specs.declared.lay_fault.LayFault.{LayFault}
 use Rattle.acpi_layout.specs.declared.lay_fault.LayFault.TheVariants.{Memory, Second}
 use Rattle.acpi_layout.specs.declared.layout.Image.{Image}
 use Rattle.acpi_layout.specs.declared.located.Located.{Located}
+use Rattle.acpi_make.specs.declared.file_kind.FileKind.{FileKind}
+use Rattle.acpi_make.specs.declared.file_kind.FileKind.TheVariants.{Rsdp, Facs, Cdat, S3pt, Table}
 use Rattle.acpi_make.specs.declared.make.Made.{Made}
 use Rattle.acpitool_program.specs.Archiving.{CantBeRead}
-use Rattle.acpitool_program.specs.Fault.{line_of}
+use Rattle.acpitool_program.specs.Fault.{line_of, Says}
 use Rattle.acpitool_program.specs.Image.{IsFoundImage}
 use Rattle.acpitool_program.specs.Listing.{IsNoImage, why}
 use Rattle.acpitool_program.specs.Making.{Held, NotMade, Saved, NotSaved}
@@ -42,20 +44,39 @@ abbrev pub AreOfText : Bool → List ℕ → Type 0
 AreOfText true bytes = (text : List ℕ) × IsTableOf text bytes
 AreOfText false bytes = Unit {0}
 
--- These are the bytes of a file, or those of the table of a text. They are what their signature says: a table, an RSDP or a FACS.
+-- whether no XSDT lists tables of a kind, and no FADT points to them
+abbrev pub is_apart : FileKind → Bool
+is_apart Cdat = true
+is_apart S3pt = true
+is_apart Rsdp = false
+is_apart Facs = false
+is_apart Table = false
+
+-- bytes are what their signature says: a table, an RSDP or a FACS
+pub record MayBeLaid (bytes : List ℕ) : Type 0 where
+  pub kind : IsKind (kind_of bytes) bytes
+  pub listed : is_apart (kind_of bytes) ≡ false
+
+-- these are the bytes of a file, or those of the table of a text
 pub record IsFile (path bytes : List ℕ) : Type 0 where
   pub of : AreOfText (is_text path) bytes
-  pub kind : IsKind (kind_of bytes) bytes
+  pub may_be : MayBeLaid bytes
 
 abbrev pub AreFiles : List (List ℕ) → List (List ℕ) → Type 0
 AreFiles [] [] = Unit {0}
 AreFiles (path ∷ paths) (file ∷ files) = IsFile path file × AreFiles paths files
 AreFiles _ _ = ⊥
 
--- the bytes of a file aren't what their signature says, and a line says why
+-- bytes aren't what their signature says, or no XSDT lists them
+abbrev pub IsFileFault : List ℕ → Fault → Type 0
+IsFileFault bytes fault =
+    IsTextFault bytes fault
+    ⊎ ((is_apart (kind_of bytes) ≡ true) × Says (Some 0) (codes "no XSDT lists a CDAT or an S3PT") fault)
+
+-- the bytes of a file have such a fault, and a line says so
 pub record IsNoFile (path bytes : List ℕ) (err err' : Option (List ℕ)) (status : ℕ) : Type 0 where
   pub fault : Fault
-  pub cause : IsTextFault bytes fault
+  pub cause : IsFileFault bytes fault
   pub complained : Appends err err' (path ++ codes ": " ++ line_of fault ++ 10 ∷ [])
   pub is : status ≡ 1
 

@@ -7,6 +7,7 @@ pub mod Terms
 pub mod Command
 pub mod Image
 pub mod Listing
+pub mod Placed
 pub mod Hint
 pub mod Making
 pub mod Job

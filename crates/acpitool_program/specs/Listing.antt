@@ -1,48 +1,44 @@
 -- What is printed of an image.
-use Rattle.std.specs.Prelude.{◌≡◌, ◌≢◌, ◌⊎◌, ℕ, ◌+◌, ◌%◌, ◌^◌, ◌==◌, Bool, List, [], ◌∷◌, ◌++◌, Option, codes}
-use Rattle.std.specs.Prelude.{if◌then◌else◌, slice_index}
-use Rattle.std.specs.Fmt.{decimal}
+use Rattle.std.specs.Prelude.{◌≡◌, ◌≢◌, ◌⊎◌, ℕ, ◌==◌, Bool, List, [], ◌∷◌, ◌++◌, Option, codes}
+use Rattle.std.specs.Prelude.{if◌then◌else◌}
 use Rattle.std.specs.Io.KnownBytes.{Keeps, Appends}
-use Rattle.acpi_base.specs.Bytes.{field_at}
-use Rattle.acpi_layout.specs.FaultText.{hexadecimal, wrong_at, text_of}
+use Rattle.acpi_layout.specs.FaultText.{hexadecimal, text_of}
 use Rattle.acpi_layout.specs.declared.fault.ImageFault.{ImageFault}
 use Rattle.acpi_layout.specs.declared.fault.ImageFault.TheVariants.{Memory, Outside}
 use Rattle.acpi_layout.specs.declared.located.Located.{Located}
-use Rattle.acpitool_program.specs.Image.{HasNoPointer, IsFirstPointer, IsFoundImage, tables_text}
+use Rattle.acpi_layout.specs.declared.root.Root.{Root}
+use Rattle.acpitool_program.specs.Image.{HasNoPointer, IsFirstPointerTo, root_address, IsFoundImage, tables_text}
 use Rattle.acpitool_program.specs.declared.image.NoImage.{NoImage}
-use Rattle.acpitool_program.specs.declared.image.NoImage.TheVariants.{NoPointer, Old, Away, Wrong}
+use Rattle.acpitool_program.specs.declared.image.NoImage.TheVariants.{NoPointer, Away, Wrong}
 
--- the first pointer has this address of an XSDT (ACPI 6.5, 5.2.5.3), and leads to no tables
+-- the first pointer has this address of an XSDT or an RSDT (ACPI 6.5, 5.2.5.3), and leads to no tables
 pub record IsAway (base : ℕ) (bytes : List ℕ) (address : ℕ) : Type 0 where
+  pub root : Root
   pub at : ℕ
-  pub first : IsFirstPointer 36 bytes at
-  pub is : address ≡ field_at (at + 24) 8 bytes
+  pub first : IsFirstPointerTo root bytes at
+  pub is : address ≡ root_address root at bytes
   pub none : (tables : List Located) → ¬ IsFoundImage base bytes tables
 
--- why a pointer at an offset leads to no tables: because of the XSDT at its own address, or else of what the fault says
-abbrev pub IsWhyNone : List ℕ → ℕ → ImageFault → NoImage → Type 0
-IsWhyNone bytes at fault (Away address) = (fault ≡ Outside address) × (address ≡ field_at (at + 24) 8 bytes)
-IsWhyNone bytes at fault (Wrong other) = other ≡ fault
-IsWhyNone bytes at fault _ = ⊥
+-- why a pointer at an offset leads to no tables: because of the XSDT or the RSDT at its own address, or else of what the fault says
+abbrev pub IsWhyNone : Root → List ℕ → ℕ → ImageFault → NoImage → Type 0
+IsWhyNone root bytes at fault (Away address) = (fault ≡ Outside address) × (address ≡ root_address root at bytes)
+IsWhyNone root bytes at fault (Wrong other) = other ≡ fault
+IsWhyNone root bytes at fault _ = ⊥
 
 -- why bytes aren't an image that begins at a base, unless memory ran out
 abbrev pub IsNoImage : ℕ → List ℕ → NoImage → Type 0
 IsNoImage base bytes NoPointer = HasNoPointer 36 bytes × HasNoPointer 20 bytes
-IsNoImage base bytes (Old at revision) =
-    HasNoPointer 36 bytes × IsFirstPointer 20 bytes at × (revision ≡ slice_index bytes (at + 15))
 IsNoImage base bytes (Away address) = IsAway base bytes address
 IsNoImage base bytes (Wrong fault) = fault ≢ Memory → (tables : List Located) → ¬ IsFoundImage base bytes tables
 
--- what is asked if the XSDT isn't in the image, and the base is 0, as it is without a word for it
+-- what is asked if the XSDT or the RSDT isn't in the image, and the base is 0, as it is without a word for it
 abbrev pub is_base_right : ℕ → ℕ → List ℕ
 is_base_right base address =
     if base == 0 then codes " (is BASE right? the RSDP points to " ++ hexadecimal address ++ codes ")" else []
 
--- its text; the address of a pointer is one of 64 bits
+-- its text
 abbrev pub why : ℕ → NoImage → List ℕ
 why base NoPointer = codes "no RSDP at a multiple of 16 bytes"
-why base (Old at revision) =
-    wrong_at ((base + at) % 2 ^ 64) (codes "an RSDP of revision " ++ decimal revision ++ codes ", which has no XSDT")
 why base (Away address) = text_of (Outside address) ++ is_base_right base address
 why base (Wrong fault) = text_of fault
 

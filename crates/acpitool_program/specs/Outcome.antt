@@ -5,18 +5,26 @@ use Rattle.std.specs.Io.KnownBytes.{Appends}
 use Rattle.acpi_dump.specs.Dump.{is_dump, tables_of}
 use Rattle.acpi_dump.specs.Fault.{text_of}
 use Rattle.acpi_dump.specs.declared.fault.DumpFault.{DumpFault}
+use Rattle.acpi_layout.specs.Addresses.{Space, image_at}
+use Rattle.acpi_layout.specs.Found.{contents}
+use Rattle.acpi_layout.specs.declared.located.Located.{Located}
 use Rattle.acpi_text.specs.Comment.{comment}
 use Rattle.acpi_forms.specs.Kind.{kind_of}
 use Rattle.acpi_read.specs.Report.{printable}
 use Rattle.acpi_rules.specs.Finding.{Finding}
+use Rattle.acpi_tree.specs.Image.{title}
 use Rattle.acpitool_program.specs.Checked.{AreFindings, printed_findings, finding_status}
 use Rattle.acpitool_program.specs.Fault.{line_of}
+use Rattle.acpitool_program.specs.Image.{IsFoundImage}
 use Rattle.acpitool_program.specs.Job.{Job, shows, checks, lists}
+use Rattle.acpitool_program.specs.Listing.{IsNoImage, why}
 use Rattle.acpitool_program.specs.Object.{IsObject}
+use Rattle.acpitool_program.specs.Placed.{IsPlaced}
 use Rattle.acpitool_program.specs.Structures.{HasFault}
 use Rattle.acpitool_program.specs.Terms.{IsAfter}
 use Rattle.acpitool_program.specs.Text.{IsTextAs, IsTextFault}
 use Rattle.acpitool_program.specs.declared.fault.Fault.{Fault}
+use Rattle.acpitool_program.specs.declared.image.NoImage.{NoImage}
 
 -- What comes of a table or of a file that has a name:
 -- - shown: the text of its bytes, after its name if it is one of several, and before further lines, and a fault of its
@@ -25,6 +33,7 @@ use Rattle.acpitool_program.specs.declared.fault.Fault.{Fault}
 -- - listed: the object of its bytes, which has a line, and a fault of its structures, if there is one;
 -- - refused: its bytes aren't what their signature says;
 -- - broken: it is a dump as text, with a line that can't be read;
+-- - imageless: its bytes are no image from a base on;
 -- - unread: it can't be read, and the system says why.
 pub data Outcome : Type 0 where
   shown : Bool → List ℕ → List ℕ → List ℕ → List ℕ → Option Fault → Outcome
@@ -32,6 +41,7 @@ pub data Outcome : Type 0 where
   listed : List ℕ → List ℕ → List ℕ → Option Fault → Outcome
   refused : List ℕ → List ℕ → Fault → Outcome
   broken : List ℕ → List ℕ → DumpFault → Outcome
+  imageless : List ℕ → ℕ → List ℕ → NoImage → Outcome
   unread : List ℕ → List ℕ → Outcome
 
 -- the lines before a text: its name as a comment, if it is one of several
@@ -46,6 +56,7 @@ output (checked json name bytes findings fault) = printed_findings json name byt
 output (listed name bytes object fault) = object ++ 10 ∷ []
 output (refused name bytes fault) = []
 output (broken name dump fault) = []
+output (imageless name base bytes fault) = []
 output (unread name why) = []
 
 -- the line of a fault, if there is one
@@ -60,6 +71,7 @@ complaint (checked json name bytes findings fault) = fault_line name fault
 complaint (listed name bytes object fault) = fault_line name fault
 complaint (refused name bytes fault) = fault_line name (Some fault)
 complaint (broken name dump fault) = name ++ codes ": " ++ text_of fault ++ 10 ∷ []
+complaint (imageless name base bytes fault) = name ++ codes ": " ++ why base fault ++ 10 ∷ []
 complaint (unread name why) = name ++ codes ": " ++ why ++ 10 ∷ []
 
 abbrev pub fault_status : Option Fault → ℕ
@@ -72,6 +84,7 @@ status (checked json name bytes findings fault) = max (finding_status findings) 
 status (listed name bytes object fault) = fault_status fault
 status (refused name bytes fault) = 1
 status (broken name dump fault) = 1
+status (imageless name base bytes fault) = 1
 status (unread name why) = 2
 
 -- The text shows the bytes, with or without the offsets of its lines, and a definition block's terms follow, in which names take
@@ -103,6 +116,7 @@ IsTrueOutcome job (checked json name bytes found fault) =
 IsTrueOutcome job (listed name bytes object fault) = IsObjectFor job name bytes object × HasFault (kind_of bytes) bytes fault
 IsTrueOutcome job (refused name bytes fault) = IsTextFault bytes fault
 IsTrueOutcome job (broken name dump fault) = tables_of dump ≡ Err fault
+IsTrueOutcome job (imageless name base bytes fault) = IsNoImage base bytes fault
 IsTrueOutcome job (unread name why) = Unit {0}
 
 -- ---- one after another
@@ -141,6 +155,7 @@ HasBytes bytes (checked json name its found fault) = its ≡ bytes
 HasBytes bytes (listed name its object fault) = its ≡ bytes
 HasBytes bytes (refused name its fault) = its ≡ bytes
 HasBytes bytes (broken name dump fault) = ⊥
+HasBytes bytes (imageless name base its fault) = ⊥
 HasBytes bytes (unread name why) = ⊥
 
 -- the outcome has this name, and is that of one of several or not
@@ -150,6 +165,7 @@ IsNamed several name (checked json its bytes found fault) = its ≡ name
 IsNamed several name (listed its bytes object fault) = its ≡ name
 IsNamed several name (refused its bytes fault) = its ≡ name
 IsNamed several name (broken its dump fault) = its ≡ name
+IsNamed several name (imageless its base bytes fault) = its ≡ name
 IsNamed several name (unread its why) = its ≡ name
 
 -- each outcome is that of its table, which is a name and bytes
@@ -175,6 +191,17 @@ abbrev pub AreOfDump : List ℕ → List ℕ → List Outcome → Type 0
 AreOfDump name dump outcomes =
     ((tables : List (List ℕ × List ℕ)) × (tables_of dump ≡ Ok tables) × AreOfTables true (map (labelled name) tables) outcomes)
     ⊎ ((fault : DumpFault) × (outcomes ≡ broken name dump fault ∷ []))
+
+-- a table of an image, whose title is its signature
+abbrev pub in_image : List ℕ → Space → Located → List ℕ × List ℕ
+in_image name memory table = labelled name (title table.signature, contents memory table)
+
+-- an image has outcomes of its tables, as a dump, or one that says why the bytes are none
+abbrev pub AreOfImage : List ℕ → ℕ → List ℕ → List Outcome → Type 0
+AreOfImage name base bytes outcomes =
+    ((tables : List Located) × IsFoundImage base bytes tables
+    × AreOfTables true (map (in_image name (image_at base bytes)) tables) outcomes)
+    ⊎ ((fault : NoImage) × (outcomes ≡ imageless name base bytes fault ∷ []))
 
 -- other bytes have one outcome
 abbrev pub AreOfBytesBy : Bool → Bool → List ℕ → List ℕ → List Outcome → Type 0
@@ -216,9 +243,20 @@ abbrev pub AreOfFolder : List ℕ → List Outcome → Type 0
 AreOfFolder folder outcomes =
     ((paths : List (List ℕ)) × AreOfEach (AreOfFile true) paths outcomes) ⊎ IsUnread folder outcomes
 
--- the outcomes of a word: `-` is standard input, and any other word a file or a folder
+-- the outcomes of the image in a file, from a base on
+abbrev pub AreOfImageFile : List ℕ → ℕ → List Outcome → Type 0
+AreOfImageFile file base outcomes = ((bytes : List ℕ) × AreOfImage file base bytes outcomes) ⊎ IsUnread file outcomes
+
+-- the outcomes of a word FILE@BASE
+abbrev pub AreOfPlaced : List ℕ → List Outcome → Type 0
+AreOfPlaced word outcomes = (file : List ℕ) × (base : ℕ) × IsPlaced word file base × AreOfImageFile file base outcomes
+
+-- the outcomes of a word: `-` is standard input, and any other word a file, a folder or an image
 abbrev pub AreOfWord : Bool → List ℕ → List Outcome → Type 0
-AreOfWord several word outcomes = AreOfFile several word outcomes ⊎ ((word ≢ codes "-") × AreOfFolder word outcomes)
+AreOfWord several word outcomes =
+    AreOfFile several word outcomes
+    ⊎ ((word ≢ codes "-") × AreOfFolder word outcomes)
+    ⊎ AreOfPlaced word outcomes
 
 -- ---- what calls print
 
@@ -229,6 +267,7 @@ checked_of (checked json name bytes findings fault) = (name, bytes) ∷ []
 checked_of (listed name bytes object fault) = []
 checked_of (refused name bytes fault) = []
 checked_of (broken name dump fault) = []
+checked_of (imageless name base bytes fault) = []
 checked_of (unread name why) = []
 
 abbrev pub checked_in : List Outcome → List (List ℕ × List ℕ)

@@ -3,10 +3,10 @@ use Rattle.std.specs.Prelude.{◌≡◌, ◌≢◌, ℕ, Bool, true, false, List
 use Rattle.acpi_base.specs.Table.{IsTrueTable}
 use Rattle.acpi_forms.specs.Kind.{kind_of, IsTextBy}
 use Rattle.acpi_make.specs.declared.file_kind.FileKind.{FileKind}
-use Rattle.acpi_make.specs.declared.file_kind.FileKind.TheVariants.{Rsdp, Facs, Table}
+use Rattle.acpi_make.specs.declared.file_kind.FileKind.TheVariants.{Rsdp, Facs, Cdat, S3pt, Table}
 use Rattle.acpi_term.specs.declared.read_error.ReadError.{ReadError}
 use Rattle.acpi_term.specs.declared.read_error.ReadError.TheVariants.{Memory}
-use Rattle.acpitool_program.specs.Check.{IsPointer, IsControl}
+use Rattle.acpitool_program.specs.Check.{IsPointer, IsControl, IsCoherent, IsPerformance}
 use Rattle.acpitool_program.specs.Fault.{IsFaultOf}
 use Rattle.acpitool_program.specs.Offsets.{without_offsets}
 use Rattle.acpitool_program.specs.declared.fault.Fault.{Fault}
@@ -15,6 +15,8 @@ use Rattle.acpitool_program.specs.declared.fault.Fault.{Fault}
 abbrev pub IsKind : FileKind → List ℕ → Type 0
 IsKind Rsdp bytes = IsPointer bytes
 IsKind Facs bytes = IsControl bytes
+IsKind Cdat bytes = IsCoherent bytes
+IsKind S3pt bytes = IsPerformance bytes
 IsKind Table bytes = IsTrueTable bytes
 
 -- bytes are what their signature says, and a text shows them

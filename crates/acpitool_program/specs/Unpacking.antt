@@ -2,7 +2,6 @@
 use Rattle.std.specs.Prelude.{◌≡◌, ◌⊎◌, ℕ, zero, suc, ◌+◌, max, nat_eq, Bool, true, false, if◌then◌else◌, List, []}
 use Rattle.std.specs.Prelude.{◌∷◌, ◌++◌}
 use Rattle.std.specs.Prelude.{Option, Ok, Err, length, map, codes, slice_index_or}
-use Rattle.std.specs.Char.{is_ascii_alphanumeric}
 use Rattle.std.specs.Fmt.{decimal}
 use Rattle.std.specs.List.{starts_with}
 use Rattle.std.specs.Str.{bytes_eq}
@@ -13,14 +12,11 @@ use Rattle.acpi_dump.specs.declared.fault.DumpFault.{DumpFault}
 use Rattle.acpi_layout.specs.Addresses.{image_at}
 use Rattle.acpi_layout.specs.Found.{contents}
 use Rattle.acpi_layout.specs.declared.located.Located.{Located}
+use Rattle.acpi_tree.specs.Image.{letter}
 use Rattle.acpitool_program.specs.Image.{IsFoundImage}
 use Rattle.acpitool_program.specs.Listing.{NotListed, NotRead}
 
 -- ---- names
-
--- a character of a signature as one of a name: a letter or a digit, and otherwise an underscore
-abbrev pub letter : ℕ → ℕ
-letter c = if is_ascii_alphanumeric c then c else 95
 
 -- Four letters for a table: those of its signature, and RSDP for an RSDP. Bytes that aren't there are underscores.
 abbrev pub stem : List ℕ → List ℕ

@@ -1,7 +1,8 @@
-//! Which bytes are a Root System Description Pointer or a Firmware ACPI Control Structure.
+//! Which bytes are a table without a standard header: a pointer, a control structure, a table of coherent devices or of S3
+//! performance.
 
 ghost use Rattle.std.specs.Prelude.{◌↔◌, IsOk};
-ghost use Rattle.acpitool_program.specs.Check.{IsPointer, IsControl};
+ghost use Rattle.acpitool_program.specs.Check.{IsPointer, IsControl, IsCoherent, IsPerformance};
 
 use acpi_read::bytes::{dword_at, sums_to_zero};
 use acpi_term::read_error::ReadError;
@@ -39,6 +40,37 @@ pub fn check_control(bytes: &[u8]) -> Result<(), ReadError>
     ensures { IsOk result ↔ IsControl bytes.now }
 {
     if bytes.len() < 64 {
+        return Err(ReadError::ShortHeader(bytes.len()));
+    }
+    if dword_at(bytes, 4) as usize != bytes.len() {
+        return Err(ReadError::TableLength(4));
+    }
+    Ok(())
+}
+
+/// Returns Ok if bytes are a Coherent Device Attribute Table (CDAT 1.03): at least 16 bytes, as many as the length at offset 0
+/// says, which sum to zero. The errors: ShortHeader for fewer bytes, TableLength at 0 for another length, Sum at 5.
+pub fn check_coherent(bytes: &[u8]) -> Result<(), ReadError>
+    ensures { IsOk result ↔ IsCoherent bytes.now }
+{
+    if bytes.len() < 16 {
+        return Err(ReadError::ShortHeader(bytes.len()));
+    }
+    if dword_at(bytes, 0) as usize != bytes.len() {
+        return Err(ReadError::TableLength(0));
+    }
+    if !sums_to_zero(bytes) {
+        return Err(ReadError::Sum(5));
+    }
+    Ok(())
+}
+
+/// Returns Ok if bytes are an S3 Performance Table (ACPI 6.5, 5.2.24): at least 8 bytes, and as many as the length at offset 4
+/// says. The errors: ShortHeader for fewer bytes, TableLength at 4 for another length.
+pub fn check_performance(bytes: &[u8]) -> Result<(), ReadError>
+    ensures { IsOk result ↔ IsPerformance bytes.now }
+{
+    if bytes.len() < 8 {
         return Err(ReadError::ShortHeader(bytes.len()));
     }
     if dword_at(bytes, 4) as usize != bytes.len() {

@@ -1,9 +1,11 @@
 //! The rules that the bytes of a file break.
 
-ghost use Rattle.std.specs.Prelude.{◌≡◌, ◌++◌, map, take, None, Ok, IfOk, IfErr, OnOk, string_bytes};
+ghost use Rattle.std.specs.Prelude.{◌≡◌, ◌++◌, map, Some, None, Ok, IfOk, IfErr, OnOk, string_bytes};
 ghost use Rattle.acpi_base.specs.Bytes.{field_at};
 ghost use Rattle.acpi_base.specs.FurtherWalk.{table_walk_of};
+ghost use Rattle.acpi_forms.specs.FurtherNames.{cdat_names, s3pt_names};
 ghost use Rattle.acpi_forms.specs.Named.{Named, IsNamed, names_of, rsdp_names, facs_names};
+ghost use Rattle.acpi_forms.specs.Walks.{cdat_walk, s3pt_walk};
 ghost use Rattle.acpi_rules.specs.Finding.{noted};
 ghost use Rattle.acpitool_program.specs.Checked.{AreByForm, AreFindings, finding_line, finding_lines, finding_status};
 ghost use Rattle.acpitool_program.specs.Checked.{object_line, finding_objects, printed_findings};
@@ -12,12 +14,14 @@ ghost use Rattle.acpi_make.specs.declared.file_kind.FileKind.TheVariants as kind
 ghost use Rattle.acpitool_program.specs.Fault.{IsFaultOf};
 ghost use Rattle.acpitool_program.specs.Text.{IsTextFault};
 
-use crate::check::{check_control, check_pointer};
+use crate::check::{check_coherent, check_control, check_performance, check_pointer};
 use crate::fault::Fault;
 use acpi_base::further_walk::table_walk_of;
 use acpi_base::walk::Walk;
 use acpi_forms::form::{facs_form, form_of, rsdp_form};
-use acpi_forms::kind::kind_of;
+use acpi_forms::further::cdat::{cdat_form, cdat_walk};
+use acpi_forms::further::s3pt::{s3pt_form, s3pt_walk};
+use acpi_forms::kind::{kind_of, title_of};
 use acpi_json::finding::push_finding as push_finding_object;
 use acpi_make::file_kind::FileKind;
 use acpi_read::pieces::signature_number;
@@ -25,7 +29,6 @@ use acpi_read::report::push_shown;
 use acpi_read::table::Table;
 use acpi_rules::finding::Finding;
 use acpi_rules::line::push_finding;
-use acpi_rules::rules::signature_of;
 use acpi_rules::standard::table_findings;
 use acpi_term::read_error::ReadError;
 use acpi_text::form::TableForm;
@@ -57,6 +60,20 @@ fn control_findings<'a>(alloc: Global, bytes: &'a [u8]) -> Result<Vec<Finding<'a
     ensures { IfOk result (λ found. AreByForm facs_names None bytes.now (map noted found.items)) }
 {
     by_form(alloc, &facs_form(), None, bytes)
+}
+
+// Returns the rules that a table of coherent devices breaks.
+fn coherent_findings<'a>(alloc: Global, bytes: &'a [u8]) -> Result<Vec<Finding<'a>>, AllocError>
+    ensures { IfOk result (λ found. AreByForm cdat_names (Some cdat_walk) bytes.now (map noted found.items)) }
+{
+    by_form(alloc, &cdat_form(), Some(cdat_walk()), bytes)
+}
+
+// Returns the rules that a table of S3 performance breaks.
+fn performance_findings<'a>(alloc: Global, bytes: &'a [u8]) -> Result<Vec<Finding<'a>>, AllocError>
+    ensures { IfOk result (λ found. AreByForm s3pt_names (Some s3pt_walk) bytes.now (map noted found.items)) }
+{
+    by_form(alloc, &s3pt_form(), Some(s3pt_walk()), bytes)
 }
 
 // Returns the rules that a table of a signature breaks.
@@ -104,6 +121,14 @@ pub fn findings_of<'a>(alloc: Global, bytes: &'a [u8]) -> Result<Vec<Finding<'a>
             Ok(()) => made(control_findings(alloc, bytes)),
             Err(error) => Err(Fault::of(FileKind::Facs, error)),
         },
+        FileKind::Cdat => match check_coherent(bytes) {
+            Ok(()) => made(coherent_findings(alloc, bytes)),
+            Err(error) => Err(Fault::of(FileKind::Cdat, error)),
+        },
+        FileKind::S3pt => match check_performance(bytes) {
+            Ok(()) => made(performance_findings(alloc, bytes)),
+            Err(error) => Err(Fault::of(FileKind::S3pt, error)),
+        },
         FileKind::Table => match Table::check(bytes) {
             Ok(table) => made(findings_of_table(alloc, &table)),
             Err(error) => Err(Fault::of(FileKind::Table, error)),
@@ -138,7 +163,7 @@ fn lines_of(
 ) -> Result<String, AllocError>
     ensures { IfOk result (λ text. string_bytes text ≡ finding_lines name.now bytes.now (map noted findings.now)) }
 {
-    let signature = signature_of(bytes);
+    let signature = title_of(bytes);
     let mut text = String::new(alloc);
     'findings: for finding in findings {
         push_line(name, signature, finding, &mut text)?;
@@ -170,7 +195,7 @@ fn objects_of(
 ) -> Result<Vec<u8>, AllocError>
     ensures { IfOk result (λ text. text.items ≡ finding_objects name.now bytes.now (map noted findings.now)) }
 {
-    let signature = signature_of(bytes);
+    let signature = title_of(bytes);
     let mut text = Vec::new(alloc);
     'findings: for finding in findings {
         push_object(name, signature, finding, &mut text)?;

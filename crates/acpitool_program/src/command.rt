@@ -421,8 +421,8 @@ fn without_prefix(word: &str) -> &str
     }
 }
 
-// Returns the address of a word.
-fn address_of(word: &str) -> Option<u64>
+/// Returns the address that a word is in hexadecimal.
+pub fn address_of(word: &str) -> Option<u64>
     ensures { MatchOption result ((base : ℕ) → ¬ IsAddress word.now base) (IsAddress word.now) }
 {
     match u64::from_str_radix(without_prefix(word), 16) {

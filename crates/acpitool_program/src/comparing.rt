@@ -1,11 +1,13 @@
 //! The fields in which the tables in two files differ.
 
-ghost use Rattle.std.specs.Prelude.{◌≡◌, ◌≤◌, ℕ, List, [], ◌∷◌, ◌++◌, codes, length, map, None, IfOk, OnOk, string_bytes};
+ghost use Rattle.std.specs.Prelude.{◌≡◌, ◌≤◌, ℕ, List, [], ◌∷◌, ◌++◌, codes, length, map, Some, None, IfOk, OnOk, string_bytes};
 ghost use Rattle.std.specs.Io.KnownBytes.{Appends};
 ghost use Rattle.acpi_base.specs.Bytes.{field_at};
 ghost use Rattle.acpi_base.specs.FurtherWalk.{table_walk_of};
 ghost use Rattle.acpi_forms.specs.Kind.{kind_of};
+ghost use Rattle.acpi_forms.specs.FurtherNames.{cdat_names, s3pt_names};
 ghost use Rattle.acpi_forms.specs.Named.{Named, IsNamed, names_of, rsdp_names, facs_names};
+ghost use Rattle.acpi_forms.specs.Walks.{cdat_walk, s3pt_walk};
 ghost use Rattle.acpi_rules.specs.Field.{seen};
 ghost use Rattle.acpitool_program.specs.Comparing.{AreByForm, AreFields, signatures_line, or_nameless, AreDifferences};
 ghost use Rattle.acpitool_program.specs.Comparing.{IsComparison, comparison_status, ComparesBytes};
@@ -21,13 +23,14 @@ use crate::text::check_kind;
 use acpi_base::further_walk::table_walk_of;
 use acpi_base::walk::Walk;
 use acpi_forms::form::{facs_form, form_of, rsdp_form};
-use acpi_forms::kind::kind_of;
+use acpi_forms::further::cdat::{cdat_form, cdat_walk};
+use acpi_forms::further::s3pt::{s3pt_form, s3pt_walk};
+use acpi_forms::kind::{kind_of, title_of};
 use acpi_make::file_kind::FileKind;
 use acpi_read::bytes::dword_at;
 use acpi_read::report::push_shown;
 use acpi_rules::difference::differences_of;
 use acpi_rules::field::Field;
-use acpi_rules::rules::signature_of;
 use acpi_rules::table::fields_of;
 use acpi_text::form::TableForm;
 use std::alloc::{AllocError, Global};
@@ -63,6 +66,20 @@ fn control_fields<'a>(alloc: Global, bytes: &'a [u8]) -> Result<Vec<Field<'a>>, 
     by_form(alloc, &facs_form(), None, bytes)
 }
 
+// Returns the fields of a table of coherent devices.
+fn coherent_fields<'a>(alloc: Global, bytes: &'a [u8]) -> Result<Vec<Field<'a>>, AllocError>
+    ensures { IfOk result (λ fields. AreByForm cdat_names (Some cdat_walk) bytes.now (map seen fields.items)) }
+{
+    by_form(alloc, &cdat_form(), Some(cdat_walk()), bytes)
+}
+
+// Returns the fields of a table of S3 performance.
+fn performance_fields<'a>(alloc: Global, bytes: &'a [u8]) -> Result<Vec<Field<'a>>, AllocError>
+    ensures { IfOk result (λ fields. AreByForm s3pt_names (Some s3pt_walk) bytes.now (map seen fields.items)) }
+{
+    by_form(alloc, &s3pt_form(), Some(s3pt_walk()), bytes)
+}
+
 // Returns the fields of a table of a signature.
 fn signature_fields<'a>(
     alloc: Global,
@@ -91,6 +108,8 @@ fn fields_in<'a>(alloc: Global, bytes: &'a [u8]) -> Result<Vec<Field<'a>>, Alloc
     match kind_of(bytes) {
         FileKind::Rsdp => pointer_fields(alloc, bytes),
         FileKind::Facs => control_fields(alloc, bytes),
+        FileKind::Cdat => coherent_fields(alloc, bytes),
+        FileKind::S3pt => performance_fields(alloc, bytes),
         FileKind::Table => table_fields(alloc, bytes),
     }
 }
@@ -100,9 +119,9 @@ fn signatures_line(alloc: Global, a: &[u8], b: &[u8]) -> Result<String, AllocErr
     ensures { IfOk result (λ text. string_bytes text ≡ signatures_line a.now b.now) }
 {
     let mut text = String::from_str(alloc, "the signatures differ: ")?;
-    push_shown(signature_of(a), &mut text)?;
+    push_shown(title_of(a), &mut text)?;
     text.push_str(", ")?;
-    push_shown(signature_of(b), &mut text)?;
+    push_shown(title_of(b), &mut text)?;
     text.push_str("\n")?;
     Ok(text)
 }
@@ -138,7 +157,7 @@ fn comparison(alloc: Global, a: &[u8], b: &[u8]) -> Result<String, AllocError>
     if a == b {
         return Ok(String::new(alloc));
     }
-    if signature_of(a) != signature_of(b) {
+    if title_of(a) != title_of(b) {
         return signatures_line(alloc, a, b);
     }
     differences(alloc, a, b)

@@ -1,18 +1,24 @@
-//! The structures of a table, drawn as a tree or as a graph.
+//! The structures of a table, or the tables of an image, drawn as a tree or as a graph.
 
 ghost use Rattle.std.specs.Prelude.{◌≡◌, IfOk, IfErr};
-ghost use Rattle.acpitool_program.specs.Drawing.{drawn, HasWalk, IsUndrawn, DrawsBytes, Draws};
+ghost use Rattle.acpitool_program.specs.Drawing.{drawn, HasWalk, IsUndrawn, DrawsBytes, DrawsFile};
+ghost use Rattle.acpitool_program.specs.Drawing.{image_drawn, DrawsImageBytes, DrawsImage, Draws};
 
 use crate::complaint::complain;
 use crate::fault::Fault;
 use crate::files::read_word;
+use crate::image::find_tables;
+use crate::listing::tell_no_image;
 use crate::outcome::tell_unread;
+use crate::placed::{Placed, image_in};
 use acpi_base::further_walk::table_walk_of;
 use acpi_base::walk::Walk;
+use acpi_layout::located::Located;
 use acpi_make::file_kind::FileKind;
 use acpi_read::pieces::signature_number;
 use acpi_read::table::Table;
 use acpi_tree::dot::dot_of;
+use acpi_tree::image::{image_dot_of, image_tree_of};
 use acpi_tree::tree::tree_of;
 use std::alloc::{AllocError, Global};
 use std::io;
@@ -75,8 +81,78 @@ fn draw_bytes<O: Write, E: Write>(
     }
 }
 
-/// Draws the structures of the table in a file, or on standard input if the word is `-`: as a tree, or as a graph for graphviz.
-/// Returns 0, or 1 if the bytes are no table or one without structures, or 2 if the file can't be read; a line says why.
+// Draws the structures of the table in a file, or on standard input.
+fn draw_file<R: Files + Input, O: Write, E: Write>(
+    rt: &R,
+    alloc: Global,
+    dot: bool,
+    name: &str,
+    out: &mut O,
+    err: &mut E,
+) -> io::Result<u8>
+    ensures { IfOk result (λ status. DrawsFile dot name.now (O.contents out.old) (O.contents out.new)
+        (E.contents err.old) (E.contents err.new) status) }
+{
+    match read_word(rt, alloc, name) {
+        Ok(bytes) => draw_bytes(alloc, dot, name, &bytes, out, err),
+        Err(error) => tell_unread(alloc, name, &error, err),
+    }
+}
+
+// Returns the graph of the tables of an image, or their tree.
+fn image_drawn(alloc: Global, dot: bool, tables: &[Located]) -> Result<Vec<u8>, AllocError>
+    ensures { IfOk result (λ text. text.items ≡ image_drawn dot tables.now) }
+{
+    if dot {
+        image_dot_of(alloc, tables)
+    } else {
+        image_tree_of(alloc, tables)
+    }
+}
+
+// Draws the tables of an image, or prints why the bytes are none, and returns the status.
+fn draw_image_bytes<O: Write, E: Write>(
+    alloc: Global,
+    dot: bool,
+    image: &Placed<'_>,
+    bytes: &[u8],
+    out: &mut O,
+    err: &mut E,
+) -> io::Result<u8>
+    ensures { IfOk result (λ status. DrawsImageBytes dot image.now.file.now image.now.base bytes.now
+        (O.contents out.old) (O.contents out.new) (E.contents err.old) (E.contents err.new) status) }
+{
+    match find_tables(alloc, image.base, bytes) {
+        Ok(tables) => {
+            let text = image_drawn(alloc, dot, &tables)?;
+            out.write_all(&text)?;
+            Ok(0)
+        }
+        Err(fault) => tell_no_image(alloc, image.file, image.base, &fault, err),
+    }
+}
+
+// Draws the tables of the image in a file, or on standard input.
+fn draw_image<R: Files + Input, O: Write, E: Write>(
+    rt: &R,
+    alloc: Global,
+    dot: bool,
+    image: &Placed<'_>,
+    out: &mut O,
+    err: &mut E,
+) -> io::Result<u8>
+    ensures { IfOk result (λ status. DrawsImage dot image.now.file.now image.now.base
+        (O.contents out.old) (O.contents out.new) (E.contents err.old) (E.contents err.new) status) }
+{
+    match read_word(rt, alloc, image.file) {
+        Ok(bytes) => draw_image_bytes(alloc, dot, image, &bytes, out, err),
+        Err(error) => tell_unread(alloc, image.file, &error, err),
+    }
+}
+
+/// Draws what a word names, as a tree, or as a graph for graphviz: the structures of the table in a file, or on standard input
+/// if the word is `-`, or the tables of an image if it is FILE@BASE. Returns 0, or 1 if the bytes are no table or no image or a
+/// table without structures, or 2 if the file can't be read; a line says why.
 pub fn draw<R: Files + Input, O: Write, E: Write>(
     rt: &R,
     alloc: Global,
@@ -88,8 +164,8 @@ pub fn draw<R: Files + Input, O: Write, E: Write>(
     ensures { IfOk result (λ status. Draws dot name.now (O.contents out.old) (O.contents out.new)
         (E.contents err.old) (E.contents err.new) status) }
 {
-    match read_word(rt, alloc, name) {
-        Ok(bytes) => draw_bytes(alloc, dot, name, &bytes, out, err),
-        Err(error) => tell_unread(alloc, name, &error, err),
+    if let Some(image) = image_in(rt, name) {
+        return draw_image(rt, alloc, dot, &image, out, err);
     }
+    draw_file(rt, alloc, dot, name, out, err)
 }

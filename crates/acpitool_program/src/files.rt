@@ -47,6 +47,11 @@ pub fn is_folder<R: Files>(rt: &R, word: &str) -> bool
     }
 }
 
+/// Returns whether a file or a folder has this path.
+pub fn is_there<R: Files>(rt: &R, path: &str) -> bool {
+    fs::metadata(rt, path).is_ok()
+}
+
 /// Returns the paths of a folder's files, in the order of their names.
 pub fn files_in<R: Files + AllocGlobal + Clone + Drop>(
     rt: &R,

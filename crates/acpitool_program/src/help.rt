@@ -18,8 +18,11 @@ usage: acpitool show [--no-offsets] FILE .. [NAME=N ..] | show --json FILE .. | 
 // What `--help`, `-h` and `help` print after the usage.
 const HELP: &str = "
 show prints each table field by field: the offset, the name and the value of each field, and what the value
-means. The text has all bytes of the table. A FILE is a table, an RSDP, a FACS, a dump of tables as text (of
-acpidump), or a folder of such files; - is standard input. The terms of a definition block follow as comments.
+means. The text has all bytes of the table. A FILE is a table, an RSDP, a FACS, a CDAT, an S3PT, a dump of tables as
+text (of acpidump), or a folder of such files; - is standard input. FILE@BASE stands for all tables of the image in
+FILE, which begins at the physical address BASE in hexadecimal, as image finds them; a file of this whole name comes
+first.
+The terms of a definition block follow as comments.
 NAME=N states how many arguments calls of NAME have. Calls of other names have as many as the table states for
 the method of this name, or else none. With --no-offsets right after it, show leaves out the offsets at the front of
 lines, so that a text diff of two tables has only what differs. make reads such a text, too.
@@ -38,7 +41,7 @@ check --json prints an array of JSON with an object for each such rule.
 diff prints a line for each field in which two tables differ: its offset and its name, and its bytes in the first and
 in the second table in hexadecimal, the highest first, or none. Fields are compared in their order and not by their
 offsets, so a structure that only one table has doesn't shift those after it. A line says if only bytes without a name
-differ, or if the tables have different signatures. A FILE is a table, an RSDP or a FACS; - is standard input.
+differ, or if the tables have different signatures. A FILE is one table, as for show; - is standard input.
 
 disassemble prints a definition block as ASL, the language that compilers take. The first FILE is its table, or -
 for standard input. The block may call the methods of those in further FILEs, as an SSDT calls those of the DSDT.
@@ -51,7 +54,7 @@ with its path from the root.
 
 image finds the RSDP in a file with the bytes of a guest's memory, follows it to all tables, and checks them.
 It prints the address, signature, length and revision of each. BASE is the address of the first byte in
-hexadecimal; it is 0 if there is none. An RSDP of revision 0 or 1 has no XSDT, and isn't followed.
+hexadecimal; it is 0 if there is none. If no RSDP points to an XSDT, one of revision 0 or 1 counts, which points to an RSDT.
 image --json prints an array of JSON with an object for each table.
 
 make reads a text that show prints, changed or written by hand, and writes the bytes of its table to FILE.
@@ -87,8 +90,10 @@ they aren't there. A file that is there isn't replaced, and no further file is w
 
 tree prints the structures of a table as a tree, each with its offset, its type and its size. Below a structure, further
 in, are those whose offsets it has: the parent and the caches of a processor (PPTT), the output of an ID mapping (IORT,
-RIMT), the node behind which an endpoint is (VIOT). One that is shown above has a line that says so. tree --dot prints
-them as a graph for graphviz.
+RIMT), the node behind which an endpoint is (VIOT). One that is shown above has a line that says so. Below a structure
+are also the numbers in it that another table defines, such as the proximity domains of a HMAT. tree FILE@BASE
+prints the tables of an image, each with its address: below the RSDP the XSDT, below this the tables that it lists, and
+below the FADT the FACS and the DSDT. tree --dot prints them as a graph for graphviz.
 
 The status is 0 if everything is shown or written, 1 if something isn't a table, an image or a text of a table,
 its structures or numbers are wrong, a table breaks a rule, two tables differ, tables have no image, no table has

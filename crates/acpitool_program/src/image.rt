@@ -5,12 +5,12 @@ ghost use Rattle.std.specs.Prelude.{OnOk, string_bytes, codes, false, ◌++◌, 
 ghost use Rattle.std.specs.Fmt.{digits};
 ghost use Rattle.acpi_json.specs.Array.{array};
 ghost use Rattle.std.specs.Io.KnownBytes.{Appends};
-ghost use Rattle.acpi_layout.specs.Found.{IsImage};
-ghost use Rattle.acpi_base.specs.Bytes.{field_at};
+ghost use Rattle.acpi_layout.specs.Found.{contents, IsImageOf};
+ghost use Rattle.acpi_layout.specs.Addresses.{image_at};
 ghost use Rattle.acpi_layout.specs.FaultText.{text_of};
 ghost use Rattle.acpi_layout.specs.declared.fault.ImageFault.TheVariants.{Memory, Outside};
 ghost use Rattle.acpi_layout.specs.declared.located.Located.{Located};
-ghost use Rattle.acpitool_program.specs.Image.{IsPointerAt, IsFirstPointer, HasNoPointer, IsFoundImage};
+ghost use Rattle.acpitool_program.specs.Image.{IsPointerAt, IsFirstPointer, HasNoPointer, IsFirstPointerTo, root_address, IsFoundImage};
 ghost use Rattle.acpitool_program.specs.Listing.{IsWhyNone, IsNoImage, is_base_right, why};
 ghost use Rattle.acpitool_program.specs.Image.{revision_offset, revision_of, table_line, table_lines};
 ghost use Rattle.acpitool_program.specs.Image.{address_member, signature_member, length_member, revision_member};
@@ -21,10 +21,11 @@ use acpi_json::array::array_of;
 use acpi_json::finding::push_member;
 use acpi_json::number::push_decimal;
 use acpi_json::string::push_string;
-use acpi_layout::check::check_image;
+use acpi_layout::check::check_image_of;
 use acpi_layout::fault::ImageFault;
 use acpi_layout::located::Located;
-use acpi_read::bytes::qword_at;
+use acpi_layout::root::Root;
+use acpi_read::bytes::{dword_at, qword_at};
 use acpi_read::report::{push_number, push_shown};
 use std::alloc::{AllocError, Global};
 use std::io;
@@ -53,9 +54,7 @@ fn is_pointer_at(bytes: &[u8], at: usize, size: usize) -> bool
 pub enum NoImage {
     /// There is no Root System Description Pointer.
     NoPointer,
-    /// The first one is at this offset, and has only the address of an RSDT.
-    Old { at: usize, revision: u8 },
-    /// The XSDT isn't in the image at this address, which is that of the pointer.
+    /// The XSDT or the RSDT isn't in the image at this address, which is that of the pointer.
     Away(u64),
     /// What the pointer leads to is wrong.
     Wrong(ImageFault),
@@ -260,19 +259,49 @@ pub fn print_tables<O: Write>(
     print_lines(alloc, base, bytes, tables, out)
 }
 
-// Returns the tables that a pointer at an offset leads to.
+// The first pointer of an image.
+#[derive(Clone, Copy)]
+struct Pointer {
+    // What it points to.
+    root: Root,
+    // Its offset.
+    at: usize,
+}
+
+// Returns the first pointer to an XSDT, or if there is none, the first pointer to an RSDT.
+fn first_pointer(bytes: &[u8]) -> Option<Pointer>
+    ensures { MatchOption result (HasNoPointer 36 bytes.now × HasNoPointer 20 bytes.now)
+        (λ pointer. IsFirstPointerTo pointer.root bytes.now pointer.at) }
+{
+    if let Some(at) = find_pointer(bytes, 36) {
+        return Some(Pointer {
+            root: Root::Xsdt,
+            at,
+        });
+    }
+    match find_pointer(bytes, 20) {
+        Some(at) => Some(Pointer {
+            root: Root::Rsdt,
+            at,
+        }),
+        None => None,
+    }
+}
+
+// Returns the tables that a pointer leads to.
 fn tables_from(
     alloc: Global,
     base: u64,
     bytes: &[u8],
-    at: usize,
+    pointer: Pointer,
 ) -> Result<Vec<Located>, ImageFault>
-    ensures ok { IfOk result (λ tables. (base + at < 2 ^ 64) × IsImage bytes.now base (base + at) tables.items) }
-    ensures err { IfErr result (λ e. e ≢ Memory → (tables : List Located) → base + at < 2 ^ 64
-        → ¬ IsImage bytes.now base (base + at) tables) }
+    ensures ok { IfOk result (λ tables. (base + pointer.at < 2 ^ 64)
+        × IsImageOf pointer.root bytes.now base (base + pointer.at) tables.items) }
+    ensures err { IfErr result (λ e. e ≢ Memory → (tables : List Located) → base + pointer.at < 2 ^ 64
+        → ¬ IsImageOf pointer.root bytes.now base (base + pointer.at) tables) }
 {
-    match base.checked_add(at as u64) {
-        Some(address) => match check_image(alloc, bytes, base, address) {
+    match base.checked_add(pointer.at as u64) {
+        Some(address) => match check_image_of(alloc, pointer.root, bytes, base, address) {
             Ok(tables) => Ok(tables),
             Err(fault) => Err(fault),
         },
@@ -280,36 +309,25 @@ fn tables_from(
     }
 }
 
-// Returns why bytes have no pointer to an XSDT.
-fn no_pointer(bytes: &[u8]) -> NoImage
-    requires { HasNoPointer 36 bytes.now }
-    ensures { (base : ℕ) → IsNoImage base bytes.now result }
+// Returns the address of the XSDT or the RSDT in a pointer.
+fn root_address(bytes: &[u8], pointer: Pointer) -> u64
+    requires { IsFirstPointerTo pointer.root bytes.now pointer.at }
+    ensures { result ≡ root_address pointer.root pointer.at bytes.now }
 {
-    match find_pointer(bytes, 20) {
-        Some(at) => NoImage::Old {
-            at,
-            revision: bytes[at + 15],
-        },
-        None => NoImage::NoPointer,
+    match pointer.root {
+        Root::Xsdt => qword_at(bytes, pointer.at + 24),
+        Root::Rsdt => u64::from(dword_at(bytes, pointer.at + 16)),
     }
 }
 
-// Returns the address of the XSDT in a pointer at an offset.
-fn xsdt_address(bytes: &[u8], at: usize) -> u64
-    requires { at + 36 ≤ length bytes.now }
-    ensures { result ≡ field_at (at + 24) 8 bytes.now }
-{
-    qword_at(bytes, at + 24)
-}
-
-// Returns why the pointer at an offset leads to no tables.
-fn why_none(bytes: &[u8], at: usize, fault: ImageFault) -> NoImage
-    requires { at + 36 ≤ length bytes.now }
-    ensures { IsWhyNone bytes.now at fault result }
+// Returns why a pointer leads to no tables.
+fn why_none(bytes: &[u8], pointer: Pointer, fault: ImageFault) -> NoImage
+    requires { IsFirstPointerTo pointer.root bytes.now pointer.at }
+    ensures { IsWhyNone pointer.root bytes.now pointer.at fault result }
 {
     match fault {
         ImageFault::Outside(address) => {
-            if address == xsdt_address(bytes, at) {
+            if address == root_address(bytes, pointer) {
                 NoImage::Away(address)
             } else {
                 NoImage::Wrong(fault)
@@ -319,21 +337,39 @@ fn why_none(bytes: &[u8], at: usize, fault: ImageFault) -> NoImage
     }
 }
 
-/// Returns the tables of an image that begins at the physical address `base`, from its first pointer on, or why there are none.
+/// Returns the tables of an image that begins at the physical address `base`, from its first pointer on, or why there are none. A
+/// pointer to an RSDT counts only if there is none to an XSDT.
 pub fn find_tables(alloc: Global, base: u64, bytes: &[u8]) -> Result<Vec<Located>, NoImage>
     ensures ok { IfOk result (λ tables. IsFoundImage base bytes.now tables.items) }
     ensures err { IfErr result (IsNoImage base bytes.now) }
 {
-    let Some(at) = find_pointer(bytes, 36) else {
-        return Err(no_pointer(bytes));
+    let Some(pointer) = first_pointer(bytes) else {
+        return Err(NoImage::NoPointer);
     };
-    match tables_from(alloc, base, bytes, at) {
+    match tables_from(alloc, base, bytes, pointer) {
         Ok(tables) => Ok(tables),
-        Err(fault) => Err(why_none(bytes, at, fault)),
+        Err(fault) => Err(why_none(bytes, pointer, fault)),
     }
 }
 
-// Returns what is asked if the XSDT isn't in the image.
+/// Returns the bytes of a table of an image that begins at the physical address `base`.
+pub fn contents<'a>(base: u64, bytes: &'a [u8], table: &Located) -> &'a [u8]
+    ensures { result.now ≡ contents (image_at base bytes.now) table.now }
+{
+    let start = table.address.saturating_sub(base);
+    if start >= bytes.len() as u64 {
+        return &bytes[bytes.len()..];
+    }
+    let rest = &bytes[start as usize..];
+    let size = table.length as usize;
+    if size < rest.len() {
+        &rest[..size]
+    } else {
+        rest
+    }
+}
+
+// Returns what is asked if the XSDT or the RSDT isn't in the image.
 fn is_base_right(alloc: Global, base: u64, address: u64) -> Result<String, AllocError>
     ensures { IfOk result (λ text. string_bytes text ≡ is_base_right base address) }
 {
@@ -344,7 +380,7 @@ fn is_base_right(alloc: Global, base: u64, address: u64) -> Result<String, Alloc
     }
 }
 
-// Returns that the XSDT isn't in the image, as text.
+// Returns that the XSDT or the RSDT isn't in the image, as text.
 fn why_away(alloc: Global, base: u64, address: u64) -> Result<String, AllocError>
     ensures { IfOk result (λ text. string_bytes text ≡ text_of (Outside address) ++ is_base_right base address) }
 {
@@ -361,10 +397,6 @@ pub fn why(alloc: Global, base: u64, fault: &NoImage) -> Result<String, AllocErr
 {
     match fault {
         NoImage::NoPointer => format!(in alloc; "no RSDP at a multiple of 16 bytes"),
-        NoImage::Old { at, revision } => {
-            let address = base.wrapping_add(*at as u64);
-            format!(in alloc; "at 0x{address:x}: an RSDP of revision {revision}, which has no XSDT")
-        }
         NoImage::Away(address) => why_away(alloc, base, *address),
         NoImage::Wrong(fault) => format!(in alloc; "{fault}"),
     }

@@ -1,32 +1,51 @@
 //! The image of the tables of a folder.
 
-ghost use Rattle.std.specs.Prelude.{◌≡◌, ◌⊎◌, ℕ, List, map, string_bytes, IfOk, OnOk, MatchResult};
+ghost use Rattle.std.specs.Prelude.{◌≡◌, ◌⊎◌, ℕ, List, map, string_bytes, IfOk, IfErr, OnOk, MatchResult};
 ghost use Rattle.std.specs.Io.KnownBytes.{Keeps, Appends};
-ghost use Rattle.acpi_forms.specs.Kind.{kind_of};
 ghost use Rattle.acpi_layout.specs.declared.located.Located.{Located};
 ghost use Rattle.acpitool_program.specs.Image.{IsFoundImage};
-ghost use Rattle.acpitool_program.specs.Laying.{is_text, IsTableOf, IsUnmade, IsFile, AreFiles, IsNoFile, IsRefused, IsMisread};
+ghost use Rattle.acpitool_program.specs.Laying.{is_text, IsTableOf, IsUnmade, MayBeLaid, IsFile, AreFiles, IsFileFault};
+ghost use Rattle.acpitool_program.specs.Laying.{IsNoFile, IsRefused, IsMisread};
 ghost use Rattle.acpitool_program.specs.Laying.{has_path, replaced_line, blamed};
 ghost use Rattle.acpitool_program.specs.Laying.{IsNotFound, HaveNoneLaid, IsNotLaid, IsFoundOf, IsImageOf, rsdp_line};
 ghost use Rattle.acpitool_program.specs.Laying.{IsSavedTo, IsSaved, HasNoImage, LaysFolder};
-ghost use Rattle.acpitool_program.specs.Text.{IsKind};
 
 use crate::complaint::complain;
+use crate::fault::Fault;
 use crate::files::{files_in, read_file};
 use crate::image::find_tables;
 use crate::listing::tell_no_image;
 use crate::making::{make_text, save};
 use crate::outcome::tell_unread;
 use crate::text::check_kind;
+use acpi_forms::kind::kind_of;
 use acpi_layout::files::lay_files;
 use acpi_layout::lay_fault::LayFault;
 use acpi_layout::layout::Image;
+use acpi_make::file_kind::FileKind;
 use std::alloc::{AllocError, Global};
 use std::io;
 use std::io::Write;
 use std::rt::Files;
 
-// Returns the bytes of a file that was read, or prints why they aren't what their signature says, and returns the status.
+// What is wrong with a table that has no place in an image.
+const NOT_LISTED: Fault = Fault {
+    place: Some(0),
+    words: "no XSDT lists a CDAT or an S3PT",
+};
+
+// Returns Ok if bytes are a table, a pointer or a control structure. An error says what is wrong with the bytes, and where.
+fn check_file(bytes: &[u8]) -> Result<(), Fault>
+    ensures ok { OnOk result (MayBeLaid bytes.now) }
+    ensures err { IfErr result (IsFileFault bytes.now) }
+{
+    match kind_of(bytes) {
+        FileKind::Cdat | FileKind::S3pt => Err(NOT_LISTED),
+        FileKind::Table | FileKind::Rsdp | FileKind::Facs => check_kind(bytes),
+    }
+}
+
+// Returns the bytes of a file that was read, or prints why they have no place in an image, and returns the status.
 fn sound<E: Write>(
     alloc: Global,
     path: &str,
@@ -34,10 +53,10 @@ fn sound<E: Write>(
     err: &mut E,
 ) -> io::Result<Result<Vec<u8>, u8>>
     ensures { IfOk result (λ file. MatchResult file
-        (λ file. (file ≡ bytes) × IsKind (kind_of file.items) file.items × Keeps (E.contents err.old) (E.contents err.new))
+        (λ file. (file ≡ bytes) × MayBeLaid file.items × Keeps (E.contents err.old) (E.contents err.new))
         (λ status. IsNoFile path.now bytes.items (E.contents err.old) (E.contents err.new) status)) }
 {
-    if let Err(fault) = check_kind(&bytes) {
+    if let Err(fault) = check_file(&bytes) {
         complain(alloc, path, &fault, err)?;
         return Ok(Err(1));
     }
@@ -305,9 +324,9 @@ fn save_image<R: Files, O: Write, E: Write>(
 /// image's RSDP, or on `err` if the image goes to `out`.
 ///
 /// If the files have no image, nothing is written, and lines on `err` say why: a file can't be read or isn't what its signature
-/// says, a text isn't made into a table or numbers of its table are wrong, the file with the image would be one of them, they can't
-/// be laid, or the tables of the image aren't found again. The status is 1 then or if the image can't be written, and 2 if a file
-/// or the folder can't be read.
+/// says, no XSDT lists it, a text isn't made into a table or numbers of its table are wrong, the file with the image would be one
+/// of them, they can't be laid, or the tables of the image aren't found again. The status is 1 then or if the image can't be
+/// written, and 2 if a file or the folder can't be read.
 pub fn lay_folder<R: Files + AllocGlobal + Clone + Drop, O: Write, E: Write>(
     rt: &R,
     alloc: Global,

@@ -25,6 +25,7 @@ pub mod making;
 pub mod object;
 pub mod offsets;
 pub mod outcome;
+pub mod placed;
 pub mod program;
 pub mod show;
 pub mod structures;

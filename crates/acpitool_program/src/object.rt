@@ -1,20 +1,24 @@
 //! The bytes of a file as an object of JSON.
 
-ghost use Rattle.std.specs.Prelude.{◌≡◌, None, Ok, IfOk, IfErr};
+ghost use Rattle.std.specs.Prelude.{◌≡◌, Some, None, Ok, IfOk, IfErr};
 ghost use Rattle.acpi_base.specs.Bytes.{field_at};
 ghost use Rattle.acpi_base.specs.FurtherWalk.{table_walk_of};
+ghost use Rattle.acpi_forms.specs.FurtherNames.{cdat_names, s3pt_names};
 ghost use Rattle.acpi_forms.specs.Named.{Named, IsNamed, names_of, rsdp_names, facs_names};
+ghost use Rattle.acpi_forms.specs.Walks.{cdat_walk, s3pt_walk};
 ghost use Rattle.acpi_make.specs.declared.file_kind.FileKind.TheVariants as kinds;
 ghost use Rattle.acpi_term.specs.declared.read_error.ReadError.TheVariants.{Memory};
 ghost use Rattle.acpitool_program.specs.Fault.{IsFaultOf};
 ghost use Rattle.acpitool_program.specs.Object.{IsByForm, IsObject};
 ghost use Rattle.acpitool_program.specs.Text.{IsTextFault};
 
-use crate::check::{check_control, check_pointer};
+use crate::check::{check_coherent, check_control, check_performance, check_pointer};
 use crate::fault::Fault;
 use acpi_base::further_walk::table_walk_of;
 use acpi_base::walk::Walk;
 use acpi_forms::form::{facs_form, form_of, rsdp_form};
+use acpi_forms::further::cdat::{cdat_form, cdat_walk};
+use acpi_forms::further::s3pt::{s3pt_form, s3pt_walk};
 use acpi_forms::kind::kind_of;
 use acpi_json::table::table_object;
 use acpi_make::file_kind::FileKind;
@@ -51,6 +55,20 @@ fn control_object(alloc: Global, name: &str, bytes: &[u8]) -> Result<Vec<u8>, Al
     ensures { IfOk result (λ object. IsByForm facs_names None name.now bytes.now object.items) }
 {
     by_form(alloc, name, &facs_form(), None, bytes)
+}
+
+// Returns the object of a table of coherent devices.
+fn coherent_object(alloc: Global, name: &str, bytes: &[u8]) -> Result<Vec<u8>, AllocError>
+    ensures { IfOk result (λ object. IsByForm cdat_names (Some cdat_walk) name.now bytes.now object.items) }
+{
+    by_form(alloc, name, &cdat_form(), Some(cdat_walk()), bytes)
+}
+
+// Returns the object of a table of S3 performance.
+fn performance_object(alloc: Global, name: &str, bytes: &[u8]) -> Result<Vec<u8>, AllocError>
+    ensures { IfOk result (λ object. IsByForm s3pt_names (Some s3pt_walk) name.now bytes.now object.items) }
+{
+    by_form(alloc, name, &s3pt_form(), Some(s3pt_walk()), bytes)
 }
 
 // Returns the object of a table of a signature.
@@ -104,6 +122,14 @@ pub fn object_of(alloc: Global, name: &str, bytes: &[u8]) -> Result<Vec<u8>, Fau
         FileKind::Facs => match check_control(bytes) {
             Ok(()) => made(control_object(alloc, name, bytes)),
             Err(error) => Err(Fault::of(FileKind::Facs, error)),
+        },
+        FileKind::Cdat => match check_coherent(bytes) {
+            Ok(()) => made(coherent_object(alloc, name, bytes)),
+            Err(error) => Err(Fault::of(FileKind::Cdat, error)),
+        },
+        FileKind::S3pt => match check_performance(bytes) {
+            Ok(()) => made(performance_object(alloc, name, bytes)),
+            Err(error) => Err(Fault::of(FileKind::S3pt, error)),
         },
         FileKind::Table => match Table::check(bytes) {
             Ok(table) => made(object_of_table(alloc, name, &table)),

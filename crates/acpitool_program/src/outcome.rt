@@ -3,24 +3,30 @@
 ghost use Rattle.std.specs.Prelude.{◌≡◌, ℕ, List, [], ◌∷◌, ◌++◌, map, IfOk, OnOk, string_bytes, codes, true, max};
 ghost use Rattle.std.specs.Io.KnownBytes.{Appends};
 ghost use Rattle.acpi_dump.specs.Dump.{titled, is_dump, tables_of};
+ghost use Rattle.acpi_layout.specs.Addresses.{image_at};
 ghost use Rattle.acpitool_program.specs.Job.{shows, checks, lists, asked};
 ghost use Rattle.acpitool_program.specs.Machine.{kept_by};
 ghost use Rattle.acpitool_program.specs.Outcome.{heading, fault_line, fault_status, label, labelled};
-ghost use Rattle.acpitool_program.specs.Outcome.{AreOfTables, AreOfDump, AreOfBytes, PrintedAs, KeptAs};
+ghost use Rattle.acpitool_program.specs.Outcome.{AreOfTables, AreOfDump, AreOfImage, AreOfBytes, PrintedAs, KeptAs, in_image};
 
 use crate::checked::{findings_of, printed_of, status_of};
 use crate::complaint::complain;
 use crate::fault::Fault;
+use crate::image::{contents, find_tables};
 use crate::job::{Job, Showing};
+use crate::listing::tell_no_image;
 use crate::machine::{Kept, keep};
 use crate::object::object_of;
+use crate::placed::Placed;
 use crate::structures::structures_fault;
 use crate::terms::lines_after;
 use crate::text::text_as;
 use acpi_dump::dump::{Dumped, is_dump, tables_of};
 use acpi_dump::fault::DumpFault;
+use acpi_layout::located::Located;
 use acpi_read::report::push_shown;
 use acpi_text::comment::push_comment;
+use acpi_tree::image::title;
 use std::alloc::{AllocError, Global};
 use std::io;
 use std::io::Write;
@@ -193,31 +199,23 @@ fn label(alloc: Global, name: &str, title: &[u8]) -> Result<String, AllocError>
     Ok(text)
 }
 
-// Shows, checks or lists a table of a dump.
-fn show_dumped<O: Write, E: Write>(
+// Shows, checks or lists a table of a dump or an image.
+fn show_titled<O: Write, E: Write>(
     alloc: Global,
     job: &Job<'_>,
     name: &str,
-    table: &Dumped,
+    title: &[u8],
+    bytes: &[u8],
     out: &mut O,
     err: &mut E,
     kept: &mut Vec<Kept>,
 ) -> io::Result<u8>
-    ensures { IfOk result (λ status. KeptAs (asked job.now) (AreOfTables true (labelled name.now (titled table.now) ∷ []))
+    ensures { IfOk result (λ status. KeptAs (asked job.now) (AreOfTables true (labelled name.now (title.now, bytes.now) ∷ []))
         (O.contents out.old) (O.contents out.new) (E.contents err.old) (E.contents err.new)
         (map kept_by kept.old.items) (map kept_by kept.new.items) status) }
 {
-    let label = label(alloc, name, &table.title)?;
-    Ok(print_table(
-        alloc,
-        job,
-        label.as_str(),
-        &table.bytes,
-        true,
-        out,
-        err,
-        kept,
-    )?)
+    let label = label(alloc, name, title)?;
+    Ok(print_table(alloc, job, label.as_str(), bytes, true, out, err, kept)?)
 }
 
 // Shows, checks or lists the tables of a dump, and returns the greatest status.
@@ -237,7 +235,7 @@ fn show_tables<O: Write, E: Write>(
 {
     let mut worst = 0;
     'tables: for table in tables {
-        let status = show_dumped(alloc, job, name, table, out, err, kept)?;
+        let status = show_titled(alloc, job, name, &table.title, &table.bytes, out, err, kept)?;
         worst = worst_of(worst, status);
     }
     Ok(worst)
@@ -265,6 +263,72 @@ fn show_dump<O: Write, E: Write>(
             complain(alloc, name, &fault, err)?;
             Ok(1)
         }
+    }
+}
+
+// Shows, checks or lists a table of an image.
+fn show_one<O: Write, E: Write>(
+    alloc: Global,
+    job: &Job<'_>,
+    image: &Placed<'_>,
+    bytes: &[u8],
+    table: &Located,
+    out: &mut O,
+    err: &mut E,
+    kept: &mut Vec<Kept>,
+) -> io::Result<u8>
+    ensures { IfOk result (λ status. KeptAs (asked job.now)
+        (AreOfTables true (in_image image.now.file.now (image_at image.now.base bytes.now) table.now ∷ []))
+        (O.contents out.old) (O.contents out.new) (E.contents err.old) (E.contents err.new)
+        (map kept_by kept.old.items) (map kept_by kept.new.items) status) }
+{
+    let title = title(&table.signature);
+    let bytes = contents(image.base, bytes, table);
+    Ok(show_titled(alloc, job, image.file, &title, bytes, out, err, kept)?)
+}
+
+// Shows, checks or lists the tables of an image, and returns the greatest status.
+fn show_found<O: Write, E: Write>(
+    alloc: Global,
+    job: &Job<'_>,
+    image: &Placed<'_>,
+    bytes: &[u8],
+    tables: &[Located],
+    out: &mut O,
+    err: &mut E,
+    kept: &mut Vec<Kept>,
+) -> io::Result<u8>
+    ensures { IfOk result (λ status. KeptAs (asked job.now)
+        (AreOfTables true (map (in_image image.now.file.now (image_at image.now.base bytes.now)) tables.now))
+        (O.contents out.old) (O.contents out.new) (E.contents err.old) (E.contents err.new)
+        (map kept_by kept.old.items) (map kept_by kept.new.items) status) }
+{
+    let mut worst = 0;
+    'tables: for table in tables {
+        let status = show_one(alloc, job, image, bytes, table, out, err, kept)?;
+        worst = worst_of(worst, status);
+    }
+    Ok(worst)
+}
+
+/// Shows, checks or lists the tables of an image, or prints why the bytes are none. Tables that were checked are added to those
+/// that are kept. Returns 0 or 1.
+pub fn show_image<O: Write, E: Write>(
+    alloc: Global,
+    job: &Job<'_>,
+    image: &Placed<'_>,
+    bytes: &[u8],
+    out: &mut O,
+    err: &mut E,
+    kept: &mut Vec<Kept>,
+) -> io::Result<u8>
+    ensures { IfOk result (λ status. KeptAs (asked job.now) (AreOfImage image.now.file.now image.now.base bytes.now)
+        (O.contents out.old) (O.contents out.new) (E.contents err.old) (E.contents err.new)
+        (map kept_by kept.old.items) (map kept_by kept.new.items) status) }
+{
+    match find_tables(alloc, image.base, bytes) {
+        Ok(tables) => Ok(show_found(alloc, job, image, bytes, &tables, out, err, kept)?),
+        Err(fault) => Ok(tell_no_image(alloc, image.file, image.base, &fault, err)?),
     }
 }
 

@@ -1,9 +1,10 @@
-//! Tables that are shown: of files, of folders, and of standard input.
+//! Tables that are shown: of files, of folders, of images, and of standard input.
 
 ghost use Rattle.std.specs.Prelude.{true, IfOk, IfErr, map, string_bytes};
 ghost use Rattle.acpitool_program.specs.Job.{asked};
 ghost use Rattle.acpitool_program.specs.Machine.{kept_by};
-ghost use Rattle.acpitool_program.specs.Outcome.{IsUnread, AreOfBytes, AreOfFile, AreOfEach, AreOfFolder, AreOfWord, KeptAs};
+ghost use Rattle.acpitool_program.specs.Outcome.{IsUnread, AreOfBytes, AreOfFile, AreOfEach, AreOfFolder, AreOfImageFile};
+ghost use Rattle.acpitool_program.specs.Outcome.{AreOfWord, KeptAs};
 ghost use Rattle.acpitool_program.specs.Program.{IsShown, AreListed};
 
 use crate::command::{Misstated, Wrong, numbers};
@@ -11,7 +12,8 @@ use crate::files::{files_in, is_folder, read_file, read_word};
 use crate::help::tell_wrong;
 use crate::job::{Job, Showing};
 use crate::machine::Kept;
-use crate::outcome::{show_content, tell_unread, worst_of};
+use crate::outcome::{show_content, show_image, tell_unread, worst_of};
+use crate::placed::{Placed, image_in};
 use acpi_json::array::array_of;
 use std::alloc::{AllocError, Global};
 use std::io;
@@ -90,7 +92,27 @@ fn show_folder<R: Files + AllocGlobal + Clone + Drop, O: Write, E: Write>(
     }
 }
 
-// Shows what a word of `show` names: a file, the files of a folder, or standard input.
+// Shows the tables of an image in a file.
+fn show_placed<R: Files + Input, O: Write, E: Write>(
+    rt: &R,
+    alloc: Global,
+    job: &Job<'_>,
+    image: &Placed<'_>,
+    out: &mut O,
+    err: &mut E,
+    kept: &mut Vec<Kept>,
+) -> io::Result<u8>
+    ensures { IfOk result (λ status. KeptAs (asked job.now) (AreOfImageFile image.now.file.now image.now.base)
+        (O.contents out.old) (O.contents out.new) (E.contents err.old) (E.contents err.new)
+        (map kept_by kept.old.items) (map kept_by kept.new.items) status) }
+{
+    match read_word(rt, alloc, image.file) {
+        Ok(bytes) => Ok(show_image(alloc, job, image, &bytes, out, err, kept)?),
+        Err(error) => Ok(tell_unread(alloc, image.file, &error, err)?),
+    }
+}
+
+// Shows what a word of `show` names: a file, the files of a folder, an image, or standard input.
 fn show_word<R: Files + Input + AllocGlobal + Clone + Drop, O: Write, E: Write>(
     rt: &R,
     alloc: Global,
@@ -107,6 +129,9 @@ fn show_word<R: Files + Input + AllocGlobal + Clone + Drop, O: Write, E: Write>(
 {
     if is_folder(rt, word) {
         return Ok(show_folder(rt, alloc, job, word, out, err, kept)?);
+    }
+    if let Some(image) = image_in(rt, word) {
+        return Ok(show_placed(rt, alloc, job, &image, out, err, kept)?);
     }
     let read = read_word(rt, alloc, word);
     Ok(show_bytes(alloc, job, word, read, several, out, err, kept)?)

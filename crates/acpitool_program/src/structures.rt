@@ -1,16 +1,20 @@
 //! What is wrong with the structures of a table.
 
-ghost use Rattle.std.specs.Prelude.{IfOk};
+ghost use Rattle.std.specs.Prelude.{◌≡◌, ◌+◌, ◌<◌, ◌^◌, length, drop, IfOk};
 ghost use Rattle.acpi_forms.specs.Kind.{kind_of};
-ghost use Rattle.acpitool_program.specs.Structures.{HasOrBroken, HasFault, IsSoundOr};
+ghost use Rattle.acpitool_program.specs.Structures.{broken_at, HasBroken, HasOrBroken, HasFault, IsSoundOr};
 ghost use Rattle.acpitool_program.specs.Text.{IsKind};
 
-use crate::check::{check_control, check_pointer};
+use crate::check::{check_coherent, check_control, check_performance, check_pointer};
 use crate::fault::Fault;
+use acpi_base::walk::{Sizes, Walk};
+use acpi_forms::further::cdat::cdat_walk;
+use acpi_forms::further::s3pt::s3pt_walk;
 use acpi_forms::kind::kind_of;
 use acpi_make::file_kind::FileKind;
 use acpi_read::table::Table;
 use acpi_term::read_error::ReadError;
+use acpi_text::size::front_size;
 use std::alloc::{AllocError, Global};
 
 // Returns what is wrong with the structures of a table, or none.
@@ -24,6 +28,50 @@ fn table_fault(alloc: Global, table: &Table) -> Result<Option<Fault>, AllocError
     }
 }
 
+// Returns where the first structure is that isn't as long as it says, of those that stand one after another from `start` on.
+fn broken_at(sizes: Sizes, start: usize, bytes: &[u8]) -> Option<usize>
+    requires { start + length bytes.now < 2 ^ 64 }
+    ensures { result ≡ broken_at (length bytes.now) sizes start bytes.now }
+{
+    let mut left = bytes.len();
+    let mut at = start;
+    let mut rest = bytes;
+    'structures: while left > 0 {
+        if rest.is_empty() {
+            return None;
+        }
+        let Some(size) = front_size(sizes, rest) else {
+            return Some(at);
+        };
+        let (_, more) = rest.split_at(size);
+        at += size;
+        rest = more;
+        left -= 1;
+    }
+    None
+}
+
+// Returns the bytes from an offset on.
+fn from_offset(offset: usize, bytes: &[u8]) -> &[u8]
+    ensures { result.now ≡ drop offset bytes.now }
+{
+    if offset < bytes.len() {
+        &bytes[offset..]
+    } else {
+        &[]
+    }
+}
+
+// Returns the fault of the first structure that isn't as long as it says, of a table without a standard header.
+fn broken(kind: FileKind, walk: Walk, bytes: &[u8]) -> Option<Fault>
+    ensures { HasBroken kind walk bytes.now result }
+{
+    match broken_at(walk.sizes, walk.start, from_offset(walk.start, bytes)) {
+        Some(at) => Some(Fault::of(kind, ReadError::Structure(at))),
+        None => None,
+    }
+}
+
 /// Returns what is wrong with the structures of a table, or none. A pointer and a control structure have no structures. The error
 /// is that memory ran out.
 pub fn structures_fault(alloc: Global, bytes: &[u8]) -> Result<Option<Fault>, AllocError>
@@ -33,6 +81,8 @@ pub fn structures_fault(alloc: Global, bytes: &[u8]) -> Result<Option<Fault>, Al
     match kind_of(bytes) {
         FileKind::Rsdp => Ok(None),
         FileKind::Facs => Ok(None),
+        FileKind::Cdat => Ok(broken(FileKind::Cdat, cdat_walk(), bytes)),
+        FileKind::S3pt => Ok(broken(FileKind::S3pt, s3pt_walk(), bytes)),
         FileKind::Table => match Table::check(bytes) {
             Ok(table) => table_fault(alloc, &table),
             Err(_) => Ok(None),
@@ -53,6 +103,14 @@ pub fn wrong_with(alloc: Global, bytes: &[u8]) -> Result<Option<Fault>, AllocErr
         FileKind::Facs => match check_control(bytes) {
             Ok(()) => Ok(None),
             Err(error) => Ok(Some(Fault::of(FileKind::Facs, error))),
+        },
+        FileKind::Cdat => match check_coherent(bytes) {
+            Ok(()) => Ok(broken(FileKind::Cdat, cdat_walk(), bytes)),
+            Err(error) => Ok(Some(Fault::of(FileKind::Cdat, error))),
+        },
+        FileKind::S3pt => match check_performance(bytes) {
+            Ok(()) => Ok(broken(FileKind::S3pt, s3pt_walk(), bytes)),
+            Err(error) => Ok(Some(Fault::of(FileKind::S3pt, error))),
         },
         FileKind::Table => match Table::check(bytes) {
             Ok(table) => table_fault(alloc, &table),

@@ -8,12 +8,12 @@ ghost use Rattle.acpi_make.specs.declared.file_kind.FileKind.TheVariants as kind
 ghost use Rattle.acpitool_program.specs.Fault.{IsFaultOf};
 ghost use Rattle.acpitool_program.specs.Text.{IsKind, IsText, IsTextAs, IsTextFault};
 
-use crate::check::{check_control, check_pointer};
+use crate::check::{check_coherent, check_control, check_performance, check_pointer};
 use crate::fault::Fault;
 use crate::offsets::without_offsets;
 use acpi_base::error::R;
 use acpi_forms::kind::kind_of;
-use acpi_forms::show::{show, show_facs, show_rsdp};
+use acpi_forms::show::{show, show_cdat, show_facs, show_rsdp, show_s3pt};
 use acpi_make::file_kind::FileKind;
 use acpi_read::table::Table;
 use acpi_term::read_error::ReadError;
@@ -30,8 +30,8 @@ fn made(text: R<String>) -> Result<String, Fault>
     }
 }
 
-/// Returns Ok if bytes are what their signature says: a table, a pointer or a control structure. An error says what is wrong with
-/// the bytes, and where.
+/// Returns Ok if bytes are what their signature says: a table, a pointer or a control structure; or, without a signature, a table
+/// of coherent devices. An error says what is wrong with the bytes, and where.
 pub fn check_kind(bytes: &[u8]) -> Result<(), Fault>
     ensures ok { OnOk result (IsKind (kind_of bytes.now) bytes.now) }
     ensures err { IfErr result (IsTextFault bytes.now) }
@@ -44,6 +44,14 @@ pub fn check_kind(bytes: &[u8]) -> Result<(), Fault>
         FileKind::Facs => match check_control(bytes) {
             Ok(()) => Ok(()),
             Err(error) => Err(Fault::of(FileKind::Facs, error)),
+        },
+        FileKind::Cdat => match check_coherent(bytes) {
+            Ok(()) => Ok(()),
+            Err(error) => Err(Fault::of(FileKind::Cdat, error)),
+        },
+        FileKind::S3pt => match check_performance(bytes) {
+            Ok(()) => Ok(()),
+            Err(error) => Err(Fault::of(FileKind::S3pt, error)),
         },
         FileKind::Table => match Table::check(bytes) {
             Ok(_) => Ok(()),
@@ -65,6 +73,14 @@ pub fn text_of(alloc: Global, bytes: &[u8]) -> Result<String, Fault>
         FileKind::Facs => match check_control(bytes) {
             Ok(()) => made(show_facs(alloc, bytes)),
             Err(error) => Err(Fault::of(FileKind::Facs, error)),
+        },
+        FileKind::Cdat => match check_coherent(bytes) {
+            Ok(()) => made(show_cdat(alloc, bytes)),
+            Err(error) => Err(Fault::of(FileKind::Cdat, error)),
+        },
+        FileKind::S3pt => match check_performance(bytes) {
+            Ok(()) => made(show_s3pt(alloc, bytes)),
+            Err(error) => Err(Fault::of(FileKind::S3pt, error)),
         },
         FileKind::Table => match Table::check(bytes) {
             Ok(table) => made(show(alloc, &table)),

@@ -4,21 +4,23 @@ ghost use Rattle.std.specs.Prelude.{◌≡◌, ◌≤◌, ℕ, List, [], ◌∷�
 ghost use Rattle.std.specs.Prelude.{OnOk, string_bytes};
 ghost use Rattle.std.specs.Io.KnownBytes.{Appends};
 ghost use Rattle.acpi_dump.specs.Dump.{is_dump};
-ghost use Rattle.acpi_layout.specs.Addresses.{Lies, image_at};
+ghost use Rattle.acpi_layout.specs.Addresses.{image_at};
 ghost use Rattle.acpi_layout.specs.Found.{contents};
-ghost use Rattle.acpitool_program.specs.Unpacking.{letter, stem, count, number, path_of, file_line, IsUnpacked};
+ghost use Rattle.acpi_tree.specs.Image.{letter};
+ghost use Rattle.acpitool_program.specs.Unpacking.{stem, count, number, path_of, file_line, IsUnpacked};
 ghost use Rattle.acpitool_program.specs.Unpacking.{AreUnpacked, AreFiles};
 ghost use Rattle.acpitool_program.specs.Unpacking.{UnpacksDump, UnpacksImage, UnpacksBy, Unpacks};
 
 use crate::complaint::complain;
 use crate::files::{is_folder, read_word, write_new};
-use crate::image::find_tables;
+use crate::image::{contents, find_tables};
 use crate::listing::tell_no_image;
 use crate::outcome::{tell_unread, worst_of};
 use acpi_dump::dump::{Dumped, is_dump, tables_of};
 use acpi_dump::fault::DumpFault;
 use acpi_layout::located::Located;
 use acpi_read::report::{push_number, push_shown};
+use acpi_tree::image::letter;
 use std::alloc::{AllocError, Global};
 use std::io::{ErrorKind, Input, Write};
 use std::rt::Files;
@@ -33,17 +35,6 @@ struct Source<'a> {
     folder: &'a str,
     // The physical address at which an image begins.
     base: u64,
-}
-
-// Returns a byte of a signature as a letter of a name.
-fn letter(byte: u8) -> u8
-    ensures { result ≡ letter byte }
-{
-    if byte.is_ascii_alphanumeric() {
-        byte
-    } else {
-        b'_'
-    }
 }
 
 // Returns the letter for the byte at an index, which may not be there.
@@ -263,23 +254,6 @@ fn unpack_dump<R: Files, O: Write, E: Write>(
             complain(alloc, name, &fault, err)?;
             Ok(1)
         }
-    }
-}
-
-// Returns the bytes of a table of an image.
-fn contents<'a>(base: u64, bytes: &'a [u8], table: &Located) -> &'a [u8]
-    ensures { result.now ≡ contents (image_at base bytes.now) table.now }
-{
-    let start = table.address.saturating_sub(base);
-    if start >= bytes.len() as u64 {
-        return &bytes[bytes.len()..];
-    }
-    let rest = &bytes[start as usize..];
-    let size = table.length as usize;
-    if size < rest.len() {
-        &rest[..size]
-    } else {
-        rest
     }
 }
 

@@ -46,15 +46,33 @@ fn push_command(words: &mut Vec<String>, command: &str) -> io::Result<()> {
     }
 }
 
+// Adds the name of the file, and the address of the image in it, if there is one.
+fn push_file(words: &mut Vec<String>, base: Option<&str>) -> io::Result<()> {
+    let Some(base) = base else {
+        return push(words, FILE);
+    };
+    let word = format!(in *words.allocator(); "{FILE}@{base}")?;
+    words.push(word)?;
+    Ok(())
+}
+
 // Adds the names of the files that a command takes.
-fn push_files(words: &mut Vec<String>, command: &str) -> io::Result<()> {
+fn push_files(words: &mut Vec<String>, command: &str, base: Option<&str>) -> io::Result<()> {
     match command {
         "template" | "help" | "-h" | "--help" | "--version" => Ok(()),
         "make" => {
             push(words, FILE)?;
             push(words, MADE)
         }
-        _ => push(words, FILE),
+        _ => push_file(words, base),
+    }
+}
+
+// Returns a command, and the address that stands after it.
+fn split_base(command: &str) -> (&str, Option<&str>) {
+    match command.split_once('@') {
+        Some((command, base)) => (command, Some(base)),
+        None => (command, None),
     }
 }
 
@@ -140,8 +158,9 @@ fn file_of(alloc: Global, mut content: Content, more: &[Line<'_>]) -> io::Result
 pub fn read_run(alloc: Global, first: &[u8], more: &[Line<'_>]) -> io::Result<Run> {
     let (command, after) = split_command(first)?;
     let mut words = Vec::new(alloc);
+    let (command, base) = split_base(command);
     push_command(&mut words, command)?;
-    push_files(&mut words, command)?;
+    push_files(&mut words, command, base)?;
     let mut content = Content::new(alloc);
     let status = read_first(after, &mut content, &mut words)?;
     let file = file_of(alloc, content, more)?;

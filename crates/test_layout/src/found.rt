@@ -370,51 +370,34 @@ fn says(alloc: Global, fault: ImageFault, wanted: &str) -> Result<(), Fail> {
 
 #[test]
 fn texts(rt: HostRuntime) -> Result<(), Fail> {
-    let alloc = rt.alloc();
-    says(alloc, ImageFault::Memory, "out of memory")?;
-    says(
-        alloc,
-        ImageFault::Outside(0x1c00_0040),
-        "at 0x1c000040: the table isn't in the image",
-    )?;
-    says(
-        alloc,
-        ImageFault::Signature(0),
-        "at 0x0: the signature is wrong",
-    )?;
-    says(
-        alloc,
-        ImageFault::Length(0xa0),
-        "at 0xa0: the length is wrong",
-    )?;
-    says(
-        alloc,
-        ImageFault::Revision(0xa0),
-        "at 0xa0: the revision isn't 2",
-    )?;
-    says(
-        alloc,
-        ImageFault::Sum(0xa0),
-        "at 0xa0: the bytes don't sum to zero",
-    )?;
-    says(
-        alloc,
-        ImageFault::Entries(0xa0),
-        "at 0xa0: the XSDT doesn't end after a whole entry",
-    )?;
-    says(
-        alloc,
-        ImageFault::NoFadt(0xa0),
-        "at 0xa0: the XSDT lists no FADT",
-    )?;
-    says(
-        alloc,
-        ImageFault::SecondFadt(0xa0),
-        "at 0xa0: this is a second FADT",
-    )?;
-    says(
-        alloc,
-        ImageFault::Overlap(0xa0, u64::MAX),
-        "at 0xa0: the table overlaps the one at 0xffffffffffffffff",
-    )
+    for (fault, wanted) in &[
+        (ImageFault::Memory, "out of memory"),
+        (
+            ImageFault::Outside(0x1c00_0040),
+            "at 0x1c000040: the table isn't in the image",
+        ),
+        (ImageFault::Signature(0), "at 0x0: the signature is wrong"),
+        (ImageFault::Length(0xa0), "at 0xa0: the length is wrong"),
+        (ImageFault::Revision(0xa0), "at 0xa0: the revision is wrong"),
+        (
+            ImageFault::Sum(0xa0),
+            "at 0xa0: the bytes don't sum to zero",
+        ),
+        (
+            ImageFault::Entries(0xa0),
+            "at 0xa0: the list of tables doesn't end after a whole entry",
+        ),
+        (ImageFault::NoFadt(0xa0), "at 0xa0: no FADT is listed"),
+        (
+            ImageFault::SecondFadt(0xa0),
+            "at 0xa0: this is a second FADT",
+        ),
+        (
+            ImageFault::Overlap(0xa0, u64::MAX),
+            "at 0xa0: the table overlaps the one at 0xffffffffffffffff",
+        ),
+    ] {
+        says(rt.alloc(), *fault, *wanted)?;
+    }
+    Ok(())
 }

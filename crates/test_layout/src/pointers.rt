@@ -27,15 +27,20 @@ fn mend(bytes: &mut Vec<u8>) -> Result<(), Fail> {
     overwrite(bytes, 0x71, &[checksum.wrapping_add(sum)])
 }
 
+// Writes these fields over those of the FADT.
+fn put_fields(bytes: &mut Vec<u8>, fields: Fields) -> Result<(), Fail> {
+    overwrite(bytes, 0x8c, &fields.firmware_ctrl.to_le_bytes())?;
+    overwrite(bytes, 0x90, &fields.dsdt.to_le_bytes())?;
+    overwrite(bytes, 0xd8, &fields.flags.to_le_bytes())?;
+    overwrite(bytes, 0xec, &fields.x_firmware_ctrl.to_le_bytes())?;
+    overwrite(bytes, 0xf4, &fields.x_dsdt.to_le_bytes())?;
+    mend(bytes)
+}
+
 // The bytes of an image with these fields of its FADT.
 fn with_fields(alloc: Global, made: &Image, fields: Fields) -> Result<Vec<u8>, Fail> {
     let mut bytes = Vec::from_slice(alloc, &made.bytes)?;
-    overwrite(&mut bytes, 0x8c, &fields.firmware_ctrl.to_le_bytes())?;
-    overwrite(&mut bytes, 0x90, &fields.dsdt.to_le_bytes())?;
-    overwrite(&mut bytes, 0xd8, &fields.flags.to_le_bytes())?;
-    overwrite(&mut bytes, 0xec, &fields.x_firmware_ctrl.to_le_bytes())?;
-    overwrite(&mut bytes, 0xf4, &fields.x_dsdt.to_le_bytes())?;
-    mend(&mut bytes)?;
+    put_fields(&mut bytes, fields)?;
     Ok(bytes)
 }
 

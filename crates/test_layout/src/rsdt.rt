@@ -1,8 +1,11 @@
 //! Images below 4 GiB, with an RSDT (ACPI 6.5, 5.2.7) and an RSDP of revision 0 (5.2.5.3).
 
+use crate::found::located;
 use crate::layout::{EMPTY_DSDT, SHARED, dsdt, fadt, holds, mcfg};
 use acpi_tables::facs::FACS;
-use acpi_tables::layout::{RsdtFault, RsdtImage, lay_reduced_rsdt, lay_rsdt};
+use acpi_tables::layout::{
+    ImageFault, Root, RsdtFault, RsdtImage, check_image_of, lay_reduced_rsdt, lay_rsdt,
+};
 use acpi_tables::rsdp::Rsdp0;
 use acpi_tables::sdt::Sdt;
 use acpi_tables::{Aml, Error};
@@ -173,6 +176,37 @@ fn a_broken_table(rt: HostRuntime) -> Result<(), Fail> {
     let sdt = dsdt(alloc, 36)?;
     let made = low(alloc, 0x03ff_ffff, 0x0fff_ffff, &sdt, &[&Broken {}]);
     faulty(made, RsdtFault::Table(Error::Sink(9)))
+}
+
+// The bytes of an image, and its pointer at the next multiple of 16.
+fn with_pointer(made: RsdtImage) -> Result<Vec<u8>, Fail> {
+    let mut bytes = made.bytes;
+    bytes.resize(bytes.len().saturating_add(15) / 16 * 16, 0)?;
+    bytes.extend_from_slice(&made.pointer)?;
+    Ok(bytes)
+}
+
+// The RSDT has an address of 32 bits for the FADT. The pointer of revision 0 leads to no XSDT.
+#[test]
+fn is_found(rt: HostRuntime) -> Result<(), Fail> {
+    let alloc = rt.alloc();
+    let bytes = with_pointer(with_dsdt(alloc, 0x40, 0xe000, 36)?)?;
+    let found = check_image_of(alloc, Root::Rsdt, &bytes, 0x1000, 0x11b0)?;
+    equal(
+        &found.as_slice(),
+        &[
+            located(0x11b0, 20, b"RSD "),
+            located(0x1180, 40, b"RSDT"),
+            located(0x1068, 276, b"FACP"),
+            located(0x1000, 64, b"FACS"),
+            located(0x1040, 36, b"DSDT"),
+        ]
+        .as_slice(),
+    )?;
+    match check_image_of(alloc, Root::Xsdt, &bytes, 0x1000, 0x11b0) {
+        Err(fault) => equal(&fault, &ImageFault::Outside(0x11b0)),
+        Ok(_) => Err(Fail::new("an XSDT")),
+    }
 }
 
 #[test]

@@ -9,15 +9,27 @@ use acpi_tables::aml::{
 };
 use acpi_tables::{Aml, R};
 use std::alloc::Global;
-use test_support::{bytes_of, written};
+use test_support::bytes_of;
 
 fn path(alloc: Global) -> R<Path> {
     Path::new(alloc, "\\_SB_.PCI0.COM1")
 }
 
-fn field(path: Path, alloc: Global) -> R<Field> {
+fn name(alloc: Global, child: &u32) -> R<Name> {
+    Name::new(path(alloc)?, child)
+}
+
+fn raw_scope(alloc: Global) -> R<Vec<u8>> {
+    Scope::raw(path(alloc)?, b"0123456789".to_vec(alloc)?)
+}
+
+fn region(alloc: Global, child: &u32) -> R<OpRegion> {
+    OpRegion::new(path(alloc)?, OpRegionSpace::SystemIO, child, &ZERO)
+}
+
+fn field(alloc: Global) -> R<Field> {
     Field::new(
-        path,
+        path(alloc)?,
         FieldAccessType::Byte,
         FieldLockRule::NoLock,
         FieldUpdateRule::Preserve,
@@ -29,35 +41,40 @@ pub const NAMED: u8 = 6;
 
 /// Objects with a name and without children.
 pub fn named(alloc: Global, child: &u32, which: u8) -> R<Vec<u8>> {
-    let path = path(alloc)?;
     match which {
-        0 => written(alloc, &path),
+        0 => bytes_of(alloc, path(alloc)),
         1 => bytes_of(alloc, Name::new_field_name(alloc, "FLD0")),
-        2 => bytes_of(alloc, Name::new(path, child)),
-        3 => Scope::raw(path, b"0123456789".to_vec(alloc)?),
-        4 => bytes_of(
-            alloc,
-            OpRegion::new(path, OpRegionSpace::SystemIO, child, &ZERO),
-        ),
-        _ => bytes_of(alloc, field(path, alloc)),
+        2 => bytes_of(alloc, name(alloc, child)),
+        3 => raw_scope(alloc),
+        4 => bytes_of(alloc, region(alloc, child)),
+        _ => bytes_of(alloc, field(alloc)),
     }
 }
 
-pub const FRAMED: u8 = 9;
+pub const NAMED_FRAMED: u8 = 5;
 
-/// Objects with children.
-pub fn framed(alloc: Global, child: &u32, which: u8) -> R<Vec<u8>> {
+/// Objects with a name and children.
+pub fn named_framed(alloc: Global, child: &u32, which: u8) -> R<Vec<u8>> {
     let path = path(alloc)?;
     let children = vec![in alloc; child as &dyn Aml, &ONE]?;
     match which {
         0 => bytes_of(alloc, PowerResource::new(path, 1, 2, children)),
         1 => bytes_of(alloc, Method::new(path, 7, true, children)),
         2 => bytes_of(alloc, MethodCall::new(path, children)),
-        3 => bytes_of(alloc, If::new(child, children)),
-        4 => bytes_of(alloc, Else::new(children)),
-        5 => bytes_of(alloc, Package::new(children)),
-        6 => bytes_of(alloc, Scope::new(path, children)),
-        7 => bytes_of(alloc, Device::new(path, children)),
+        3 => bytes_of(alloc, Scope::new(path, children)),
+        _ => bytes_of(alloc, Device::new(path, children)),
+    }
+}
+
+pub const FRAMED: u8 = 4;
+
+/// Objects with children and without a name.
+pub fn framed(alloc: Global, child: &u32, which: u8) -> R<Vec<u8>> {
+    let children = vec![in alloc; child as &dyn Aml, &ONE]?;
+    match which {
+        0 => bytes_of(alloc, If::new(child, children)),
+        1 => bytes_of(alloc, Else::new(children)),
+        2 => bytes_of(alloc, Package::new(children)),
         _ => bytes_of(alloc, While::new(child, children)),
     }
 }
@@ -69,12 +86,16 @@ fn resources(alloc: Global) -> R<ResourceTemplate> {
 
 pub const STANDARD: u8 = 5;
 
+fn search(alloc: Global, child: &u32) -> R<Match> {
+    let test = MatchTest::new(alloc, Comparison::Equal, child)?;
+    Match::new(alloc, child, &test, &test, &ZERO)
+}
+
 /// What the language `Standard` alone has.
 pub fn standard(alloc: Global, child: &u32, which: u8) -> R<Vec<u8>> {
-    let test = MatchTest::new(alloc, Comparison::Equal, child)?;
     match which {
-        0 => written(alloc, &test),
-        1 => bytes_of(alloc, Match::new(alloc, child, &test, &test, &ZERO)),
+        0 => bytes_of(alloc, MatchTest::new(alloc, Comparison::Equal, child)),
+        1 => bytes_of(alloc, search(alloc, child)),
         2 => bytes_of(alloc, Fatal::new(alloc, 1, 2, child)),
         3 => bytes_of(alloc, index_field(alloc)),
         _ => bytes_of(alloc, bank_field(alloc, child)),
@@ -106,11 +127,15 @@ fn bank_field(alloc: Global, child: &u32) -> R<BankField> {
 
 pub const DATA: u8 = 4;
 
+fn buffer(alloc: Global) -> R<BufferData> {
+    BufferData::new(b"0123456789".to_vec(alloc)?)
+}
+
 /// Data.
 pub fn data(alloc: Global, child: &u32, which: u8) -> R<Vec<u8>> {
     match which {
         0 => bytes_of(alloc, BufferTerm::new(alloc, child)),
-        1 => bytes_of(alloc, BufferData::new(b"0123456789".to_vec(alloc)?)),
+        1 => bytes_of(alloc, buffer(alloc)),
         2 => bytes_of(alloc, resources(alloc)),
         _ => bytes_of(alloc, VarPackageTerm::new(alloc, child)),
     }

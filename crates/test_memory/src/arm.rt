@@ -1,6 +1,6 @@
 //! The tables of Arm machines, and those of their structures that grow by themselves.
 
-use crate::trial::Grows;
+use crate::trial::{Grows, done};
 use acpi_tables::R;
 use acpi_tables::dbg2::{DBG2, DebugDevice, DebugPort};
 use acpi_tables::gas::GAS;
@@ -70,8 +70,12 @@ fn group(alloc: Global) -> R<ItsGroupHandle> {
     iort(alloc).add_its_group(ItsGroup::new(alloc))
 }
 
+fn smmu_v3(alloc: Global) -> SmmuV3 {
+    SmmuV3::new(alloc, SmmuV3Model::Generic, 1)
+}
+
 fn node(alloc: Global) -> R<SmmuV3Handle> {
-    iort(alloc).add_smmu_v3(SmmuV3::new(alloc, SmmuV3Model::Generic, 1))
+    iort(alloc).add_smmu_v3(smmu_v3(alloc))
 }
 
 fn mapping(alloc: Global) -> R<IdMapping> {
@@ -90,12 +94,16 @@ impl Grows for ItsGroup {
     }
 }
 
+fn component(alloc: Global) -> R<NamedComponent> {
+    let name = String::from_str(alloc, "\\_SB_.DEV0")?;
+    Ok(NamedComponent::new(alloc, name))
+}
+
 impl Grows for NamedComponent {
     const WAYS: u8 = 1;
 
     fn empty(alloc: Global) -> R<NamedComponent> {
-        let name = String::from_str(alloc, "\\_SB_.DEV0")?;
-        Ok(NamedComponent::new(alloc, name))
+        component(alloc)
     }
 
     fn grow(&mut self, alloc: Global, _way: u8) -> R<()> {
@@ -115,12 +123,15 @@ impl Grows for RootComplex {
     }
 }
 
+fn smmu(alloc: Global) -> Smmu {
+    Smmu::new(alloc, SmmuModel::GenericV2, 2, 3, SmmuInterrupt::new(1))
+}
+
 impl Grows for Smmu {
     const WAYS: u8 = 3;
 
     fn empty(alloc: Global) -> R<Smmu> {
-        let fault = SmmuInterrupt::new(1);
-        Ok(Smmu::new(alloc, SmmuModel::GenericV2, 2, 3, fault))
+        Ok(smmu(alloc))
     }
 
     fn grow(&mut self, alloc: Global, way: u8) -> R<()> {
@@ -136,7 +147,7 @@ impl Grows for SmmuV3 {
     const WAYS: u8 = 1;
 
     fn empty(alloc: Global) -> R<SmmuV3> {
-        Ok(SmmuV3::new(alloc, SmmuV3Model::Generic, 1))
+        Ok(smmu_v3(alloc))
     }
 
     fn grow(&mut self, alloc: Global, _way: u8) -> R<()> {
@@ -144,11 +155,15 @@ impl Grows for SmmuV3 {
     }
 }
 
+fn memory(alloc: Global) -> ReservedMemory {
+    ReservedMemory::new(alloc, AccessAttributes::DeviceGRE)
+}
+
 impl Grows for ReservedMemory {
     const WAYS: u8 = 2;
 
     fn empty(alloc: Global) -> R<ReservedMemory> {
-        Ok(ReservedMemory::new(alloc, AccessAttributes::DeviceGRE))
+        Ok(memory(alloc))
     }
 
     fn grow(&mut self, alloc: Global, way: u8) -> R<()> {
@@ -166,6 +181,14 @@ fn counters(alloc: Global) -> R<Pmcg> {
     Ok(counters)
 }
 
+fn add_component(table: &mut IORT, alloc: Global) -> R<()> {
+    done(table.add_named_component(component(alloc)?))
+}
+
+fn add_counters(table: &mut IORT, alloc: Global) -> R<()> {
+    table.add_pmcg(counters(alloc)?)
+}
+
 impl Grows for IORT {
     const WAYS: u8 = 7;
 
@@ -175,14 +198,13 @@ impl Grows for IORT {
 
     fn grow(&mut self, alloc: Global, way: u8) -> R<()> {
         match way {
-            0 => drop(self.add_its_group(ItsGroup::empty(alloc)?)?),
-            1 => drop(self.add_named_component(NamedComponent::empty(alloc)?)?),
-            2 => drop(self.add_root_complex(RootComplex::empty(alloc)?)?),
-            3 => drop(self.add_smmu(Smmu::empty(alloc)?)?),
-            4 => drop(self.add_smmu_v3(SmmuV3::empty(alloc)?)?),
-            5 => self.add_pmcg(counters(alloc)?)?,
-            _ => self.add_reserved_memory(ReservedMemory::empty(alloc)?)?,
+            0 => done(self.add_its_group(ItsGroup::new(alloc))),
+            1 => add_component(self, alloc),
+            2 => done(self.add_root_complex(RootComplex::new(alloc, 1))),
+            3 => done(self.add_smmu(smmu(alloc))),
+            4 => done(self.add_smmu_v3(smmu_v3(alloc))),
+            5 => add_counters(self, alloc),
+            _ => self.add_reserved_memory(memory(alloc)),
         }
-        Ok(())
     }
 }

@@ -61,27 +61,35 @@ use acpi_tables::srat::SRAT;
 use acpi_tables::viot::VIOT;
 use acpi_tables::xsdt::XSDT;
 use std::alloc::Global;
-use test_support::written;
+use test_support::bytes_of;
 
 fn main(rt: HostRuntime) -> Result<(), Fault> {
     let mut trial = Trial::new(rt.alloc())?;
-    fill_lists(&mut trial, rt.alloc())?;
-    fill_others(&mut trial, rt.alloc())?;
-    fill_arm(&mut trial, rt.alloc())?;
-    fill_pc(&mut trial, rt.alloc())?;
-    errors::entry(&mut trial, rt.alloc())?;
-    errors::clones(&mut trial, rt.alloc())?;
-    make_objects(&mut trial, rt.alloc())?;
-    image::images(&mut trial, rt.alloc())?;
-    reading::bytecode(&mut trial, rt.alloc())?;
-    reading::tables(&mut trial, rt.alloc())?;
-    reading::further_table(&mut trial, rt.alloc())?;
+    fill_all(&mut trial, rt.alloc())?;
+    make_all(&mut trial, rt.alloc())?;
     let tally = trial.tally;
     println!(rt;
         "{} bytes, sum {}, calls out of memory: {}",
         tally.length, tally.sum, tally.refusals
     )?;
     Ok(())
+}
+
+fn fill_all(trial: &mut Trial, alloc: Global) -> Result<(), Fault> {
+    fill_lists(trial, alloc)?;
+    fill_others(trial, alloc)?;
+    fill_arm(trial, alloc)?;
+    fill_pc(trial, alloc)
+}
+
+fn make_all(trial: &mut Trial, alloc: Global) -> Result<(), Fault> {
+    errors::entry(trial, alloc)?;
+    errors::clones(trial, alloc)?;
+    make_objects(trial, alloc)?;
+    image::images(trial, alloc)?;
+    reading::bytecode(trial, alloc)?;
+    reading::tables(trial, alloc)?;
+    reading::further_table(trial, alloc)
 }
 
 fn fill_lists(trial: &mut Trial, alloc: Global) -> Result<(), Fault> {
@@ -129,48 +137,55 @@ fn fill_pc(trial: &mut Trial, alloc: Global) -> Result<(), Fault> {
 // Structures and tables that are made whole by one call.
 fn part(alloc: Global, which: u8) -> R<Vec<u8>> {
     match which {
-        0 => written(alloc, &cxl::window(alloc)?),
-        1 => written(alloc, &matrices::latencies(alloc)?),
-        _ => written(alloc, &matrices::distances(alloc)?),
+        0 => bytes_of(alloc, cxl::window(alloc)),
+        1 => bytes_of(alloc, matrices::latencies(alloc)),
+        _ => bytes_of(alloc, matrices::distances(alloc)),
     }
+}
+
+fn make_aml(trial: &mut Trial, alloc: Global, child: &u32) -> Result<(), Fault> {
+    let (named, both) = (aml::NAMED, aml::NAMED_FRAMED);
+    trial.all(child, named, |which: u8| aml::named(alloc, child, which))?;
+    trial.all(
+        child,
+        both,
+        |which: u8| aml::named_framed(alloc, child, which),
+    )?;
+    trial.all(
+        child,
+        aml::FRAMED,
+        |which: u8| aml::framed(alloc, child, which),
+    )?;
+    trial.all(
+        child,
+        aml::STANDARD,
+        |which: u8| aml::standard(alloc, child, which),
+    )?;
+    trial.all(child, aml::DATA, |which: u8| aml::data(alloc, child, which))
+}
+
+fn make_others(trial: &mut Trial, alloc: Global, child: &u32) -> Result<(), Fault> {
+    let (descriptors, operators) = (descriptors::DESCRIPTORS, operators::OPERATORS);
+    trial.all(
+        child,
+        descriptors,
+        |which: u8| descriptors::descriptor(alloc, which),
+    )?;
+    trial.all(
+        child,
+        operators,
+        |which: u8| operators::operator(alloc, child, which),
+    )?;
+    trial.all(
+        child,
+        built::BUILT,
+        |which: u8| built::built(alloc, child, which),
+    )
 }
 
 fn make_objects(trial: &mut Trial, alloc: Global) -> Result<(), Fault> {
     let child = 0x0102_0304u32;
     trial.all(&child, 3, |which: u8| part(alloc, which))?;
-    trial.all(
-        &child,
-        aml::NAMED,
-        |which: u8| aml::named(alloc, &child, which),
-    )?;
-    trial.all(
-        &child,
-        aml::FRAMED,
-        |which: u8| aml::framed(alloc, &child, which),
-    )?;
-    trial.all(
-        &child,
-        aml::STANDARD,
-        |which: u8| aml::standard(alloc, &child, which),
-    )?;
-    trial.all(
-        &child,
-        aml::DATA,
-        |which: u8| aml::data(alloc, &child, which),
-    )?;
-    trial.all(
-        &child,
-        descriptors::DESCRIPTORS,
-        |which: u8| descriptors::descriptor(alloc, which),
-    )?;
-    trial.all(
-        &child,
-        operators::OPERATORS,
-        |which: u8| operators::operator(alloc, &child, which),
-    )?;
-    trial.all(
-        &child,
-        built::BUILT,
-        |which: u8| built::built(alloc, &child, which),
-    )
+    make_aml(trial, alloc, &child)?;
+    make_others(trial, alloc, &child)
 }

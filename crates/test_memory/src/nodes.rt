@@ -1,6 +1,6 @@
 //! Tables of nodes that refer to each other. A handle is an offset, so one of another table of the same kind can be used as well.
 
-use crate::trial::Grows;
+use crate::trial::{Grows, done};
 use acpi_tables::R;
 use acpi_tables::pptt::{CacheHandle, CacheNodeBuilder, PPTT, ProcessorNode};
 use acpi_tables::rhct::{CmoNode, HartInfoNode, RHCT, VirtualAddressScheme};
@@ -31,6 +31,10 @@ fn processor(alloc: Global) -> R<ProcessorNode> {
     Ok(processor)
 }
 
+fn add_processor(table: &mut PPTT, alloc: Global) -> R<()> {
+    done(table.add_processor(processor(alloc)?))
+}
+
 impl Grows for PPTT {
     const WAYS: u8 = 2;
 
@@ -40,10 +44,9 @@ impl Grows for PPTT {
 
     fn grow(&mut self, alloc: Global, way: u8) -> R<()> {
         match way {
-            0 => drop(self.add_cache(CacheNodeBuilder::default().size(0x8000).to_node())?),
-            _ => drop(self.add_processor(processor(alloc)?)?),
+            0 => done(self.add_cache(CacheNodeBuilder::default().size(0x8000).to_node())),
+            _ => add_processor(self, alloc),
         }
-        Ok(())
     }
 }
 
@@ -61,6 +64,10 @@ fn hart_info(alloc: Global) -> R<HartInfoNode> {
     Ok(hart)
 }
 
+fn add_hart(table: &mut RHCT, alloc: Global) -> R<()> {
+    table.add_hart_info(hart_info(alloc)?)
+}
+
 impl Grows for RHCT {
     const WAYS: u8 = 4;
 
@@ -70,12 +77,11 @@ impl Grows for RHCT {
 
     fn grow(&mut self, alloc: Global, way: u8) -> R<()> {
         match way {
-            0 => drop(self.add_isa_string("rv64imafdc")?),
-            1 => drop(self.add_cmo(CmoNode::new(1, 2, 3))?),
-            2 => self.add_mmu_node(VirtualAddressScheme::Sv39)?,
-            _ => self.add_hart_info(hart_info(alloc)?)?,
+            0 => done(self.add_isa_string("rv64imafdc")),
+            1 => done(self.add_cmo(CmoNode::new(1, 2, 3))),
+            2 => self.add_mmu_node(VirtualAddressScheme::Sv39),
+            _ => add_hart(self, alloc),
         }
-        Ok(())
     }
 }
 
@@ -92,6 +98,14 @@ fn range(alloc: Global) -> R<PciRange> {
     Ok(PciRange::new(first, last, &translation(alloc)?))
 }
 
+fn add_endpoint(table: &mut VIOT, alloc: Global) -> R<()> {
+    table.add_mmio_endpoint(MmioEndpoint::new(1, 2, &translation(alloc)?))
+}
+
+fn add_range(table: &mut VIOT, alloc: Global) -> R<()> {
+    table.add_pci_range(range(alloc)?)
+}
+
 impl Grows for VIOT {
     const WAYS: u8 = 4;
 
@@ -101,12 +115,11 @@ impl Grows for VIOT {
 
     fn grow(&mut self, alloc: Global, way: u8) -> R<()> {
         match way {
-            0 => drop(self.add_virtio_pci_iommu(VirtIoPciIommu::new(PciDevice::new(1, 2, 3, 4)))?),
-            1 => drop(self.add_virtio_mmio_iommu(VirtIoMmioIommu::new(0x1000))?),
-            2 => self.add_mmio_endpoint(MmioEndpoint::new(1, 2, &translation(alloc)?))?,
-            _ => self.add_pci_range(range(alloc)?)?,
+            0 => done(self.add_virtio_pci_iommu(VirtIoPciIommu::new(PciDevice::new(1, 2, 3, 4)))),
+            1 => done(self.add_virtio_mmio_iommu(VirtIoMmioIommu::new(0x1000))),
+            2 => add_endpoint(self, alloc),
+            _ => add_range(self, alloc),
         }
-        Ok(())
     }
 }
 
@@ -133,6 +146,19 @@ fn platform(alloc: Global) -> R<Platform> {
     Ok(Platform::new(1, name, Some(mappings(alloc)?)))
 }
 
+fn add_iommu(table: &mut RIMT, alloc: Global) -> R<()> {
+    done(table.add_iommu(iommu(alloc)?))
+}
+
+fn add_root_complex(table: &mut RIMT, alloc: Global) -> R<()> {
+    let mappings = mappings(alloc)?;
+    table.add_pcie_root_complex(PcieRootComplex::new(1, 2, true, true, Some(mappings)))
+}
+
+fn add_platform(table: &mut RIMT, alloc: Global) -> R<()> {
+    table.add_platform(platform(alloc)?)
+}
+
 impl Grows for RIMT {
     const WAYS: u8 = 3;
 
@@ -142,14 +168,9 @@ impl Grows for RIMT {
 
     fn grow(&mut self, alloc: Global, way: u8) -> R<()> {
         match way {
-            0 => drop(self.add_iommu(iommu(alloc)?)?),
-            1 => {
-                let mappings = mappings(alloc)?;
-                let complex = PcieRootComplex::new(1, 2, true, true, Some(mappings));
-                self.add_pcie_root_complex(complex)?;
-            }
-            _ => self.add_platform(platform(alloc)?)?,
+            0 => add_iommu(self, alloc),
+            1 => add_root_complex(self, alloc),
+            _ => add_platform(self, alloc),
         }
-        Ok(())
     }
 }

@@ -21,12 +21,16 @@ impl Grows for RSDT {
 }
 
 // One step of a path has room inside the value. The second asks for memory.
-fn unit(alloc: Global) -> R<Drhd> {
+fn scope(alloc: Global) -> R<DeviceScope> {
     let mut scope = DeviceScope::new(alloc, ScopeType::PciEndpoint, 0, 0, 1, 0)?;
     scope.add_step(2, 3)?;
+    Ok(scope)
+}
+
+fn unit(alloc: Global, scope: &DeviceScope) -> R<Drhd> {
     let mut unit = Drhd::new(alloc, 0, 0xfed9_0000);
-    unit.add_scope(&scope)?;
-    unit.add_scope(&scope)?;
+    unit.add_scope(scope)?;
+    unit.add_scope(scope)?;
     Ok(unit)
 }
 
@@ -39,7 +43,7 @@ impl Grows for DMAR {
 
     fn grow(&mut self, alloc: Global, way: u8) -> R<()> {
         match way {
-            0 => self.add_drhd(unit(alloc)?),
+            0 => self.add_drhd(unit(alloc, &scope(alloc)?)?),
             _ => self.add_andd(Andd::new(alloc, 5, "\\_SB.DEV0")?),
         }
     }

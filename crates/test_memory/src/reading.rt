@@ -53,18 +53,27 @@ fn xsdt(alloc: Global) -> R<Vec<u8>> {
     written(alloc, &table)
 }
 
-/// The structures of a table, and its reports.
-pub fn tables(trial: &mut Trial, alloc: Global) -> Result<(), Fault> {
-    let bytes = trial.make(&7u8, || Ok(xsdt(alloc)?))?;
-    let table = Table::check(&bytes)?;
-    let report = trial.make(&7u8, || Ok(report_header(alloc, &table)?))?;
+fn count_reports(trial: &mut Trial, alloc: Global, table: &Table<'_>) -> Result<(), Fault> {
+    let report = trial.make(&7u8, || Ok(report_header(alloc, table)?))?;
     trial.count(report.as_bytes());
-    let report = trial.make(&7u8, || Ok(report_table(alloc, &table)?))?;
+    let report = trial.make(&7u8, || Ok(report_table(alloc, table)?))?;
     trial.count(report.as_bytes());
+    Ok(())
+}
+
+fn count_pieces(trial: &mut Trial, alloc: Global, table: &Table<'_>) -> Result<(), Fault> {
     for piece in &trial.make(&7u8, || Ok(table.pieces(alloc)?))? {
         trial.count(piece.bytes);
     }
     Ok(())
+}
+
+/// The structures of a table, and its reports.
+pub fn tables(trial: &mut Trial, alloc: Global) -> Result<(), Fault> {
+    let bytes = trial.make(&7u8, || Ok(xsdt(alloc)?))?;
+    let table = Table::check(&bytes)?;
+    count_reports(trial, alloc, &table)?;
+    count_pieces(trial, alloc, &table)
 }
 
 // A table with one watchdog.

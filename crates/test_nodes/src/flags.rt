@@ -1,21 +1,9 @@
-//! Flags of processors and caches, set twice and after others.
+//! Fields and flags of caches, set twice and after others.
 
-use crate::pptt::{cache, flagged, processor};
+use crate::pptt::cache;
 use acpi_tables::pptt::{AllocationType, CacheType, WritePolicy};
 use std::test::Fail;
 use test_support::writes;
-
-#[test]
-fn processors(rt: HostRuntime) -> Result<(), Fail> {
-    let alloc = rt.alloc();
-    flagged(alloc, processor(alloc).physical().physical(), 1)?;
-    flagged(alloc, processor(alloc).valid().valid(), 2)?;
-    flagged(alloc, processor(alloc).thread().thread(), 4)?;
-    flagged(alloc, processor(alloc).identical().identical(), 16)?;
-    flagged(alloc, processor(alloc).leaf().physical(), 9)?;
-    let all = processor(alloc).identical().leaf().thread().valid();
-    flagged(alloc, all.physical(), 31)
-}
 
 #[test]
 fn caches(rt: HostRuntime) -> Result<(), Fail> {

@@ -27,4 +27,6 @@ mod rimt;
 #[cfg(test)]
 mod rimt_limits;
 #[cfg(test)]
+mod tables;
+#[cfg(test)]
 mod viot;

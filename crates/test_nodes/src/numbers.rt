@@ -7,7 +7,7 @@ use test_support::equal;
 
 #[test]
 fn nodes() -> Result<(), Fail> {
-    for (number, wanted) in [
+    for (number, wanted) in &[
         (AllocationType::Read as u32, 0),
         (AllocationType::Write as u32, 1),
         (AllocationType::Both as u32, 2),
@@ -20,7 +20,7 @@ fn nodes() -> Result<(), Fail> {
         (VirtualAddressScheme::Sv48 as u32, 1),
         (VirtualAddressScheme::Sv57 as u32, 2),
     ] {
-        equal(&number, &wanted)?;
+        equal(number, wanted)?;
     }
     Ok(())
 }

@@ -112,17 +112,31 @@ fn offsets_of_handles(rt: HostRuntime) -> Result<(), Fail> {
     offsets_are_told(rt.alloc(), &mut table(rt.alloc()))
 }
 
-// Adds a package with a shared cache, a core below it with a private one, and a thread below that.
-fn add_thread(alloc: Global, table: &mut PPTT) -> R<ProcessorHandle> {
-    let shared = table.add_cache(cache().id(1).to_node())?;
-    let package = with_caches(processor(alloc).physical(), &[shared])?;
-    let package = table.add_processor(package)?;
+// Adds a package with a shared cache.
+fn add_package(alloc: Global, table: &mut PPTT, shared: CacheHandle) -> R<ProcessorHandle> {
+    table.add_processor(with_caches(processor(alloc).physical(), &[shared])?)
+}
+
+// Adds a core with a private cache below a package.
+fn add_core(
+    alloc: Global,
+    table: &mut PPTT,
+    package: ProcessorHandle,
+    shared: CacheHandle,
+) -> R<ProcessorHandle> {
     let own = cache()
         .next_level(&shared)
         .cache_type(CacheType::Instruction);
     let own = table.add_cache(own.to_node())?;
     let core = ProcessorNode::new(alloc, Some(&package), 7).valid().leaf();
-    let core = table.add_processor(with_caches(core, &[own, shared])?)?;
+    table.add_processor(with_caches(core, &[own, shared])?)
+}
+
+// Adds a package, a core below it, and a thread below that.
+fn add_thread(alloc: Global, table: &mut PPTT) -> R<ProcessorHandle> {
+    let shared = table.add_cache(cache().id(1).to_node())?;
+    let package = add_package(alloc, table, shared)?;
+    let core = add_core(alloc, table, package, shared)?;
     table.add_processor(ProcessorNode::new(alloc, Some(&core), 8).thread())
 }
 
@@ -143,24 +157,79 @@ fn node(alloc: Global, node: ProcessorNode, wanted: &[u8]) -> Result<(), Fail> {
     writes(alloc, &node, wanted)
 }
 
-// Fails unless a processor has these flags, at offset 4.
-pub(crate) fn flagged(alloc: Global, made: ProcessorNode, flags: u8) -> Result<(), Fail> {
+// A call that sets a flag of a processor.
+#[derive(Clone, Copy)]
+enum Flag {
+    Physical,
+    Valid,
+    Thread,
+    Leaf,
+    Identical,
+}
+
+fn with_flag(node: ProcessorNode, flag: Flag) -> ProcessorNode {
+    match flag {
+        Flag::Physical => node.physical(),
+        Flag::Valid => node.valid(),
+        Flag::Thread => node.thread(),
+        Flag::Leaf => node.leaf(),
+        Flag::Identical => node.identical(),
+    }
+}
+
+// Fails unless a processor has this number at offset 4 after these calls.
+fn flagged(alloc: Global, calls: &[Flag], number: u8) -> Result<(), Fail> {
+    let mut made = processor(alloc);
+    for flag in calls {
+        made = with_flag(made, *flag);
+    }
     let mut wanted = *b"\0\x14\0\0\0\0\0\0\0\0\0\0\x01\x02\x03\x04\0\0\0\0";
-    wanted[4] = flags;
+    wanted[4] = number;
     node(alloc, made, &wanted)
 }
 
+// Each flag alone, set twice, and after others.
+const FLAGS: [(&[Flag], u8); 13] = [
+    (&[], 0),
+    (&[Flag::Physical], 1),
+    (&[Flag::Valid], 2),
+    (&[Flag::Thread], 4),
+    (&[Flag::Leaf], 8),
+    (&[Flag::Identical], 16),
+    (
+        &[
+            Flag::Physical,
+            Flag::Valid,
+            Flag::Thread,
+            Flag::Leaf,
+            Flag::Identical,
+            Flag::Leaf,
+        ],
+        31,
+    ),
+    (&[Flag::Physical, Flag::Physical], 1),
+    (&[Flag::Valid, Flag::Valid], 2),
+    (&[Flag::Thread, Flag::Thread], 4),
+    (&[Flag::Identical, Flag::Identical], 16),
+    (&[Flag::Leaf, Flag::Physical], 9),
+    (
+        &[
+            Flag::Identical,
+            Flag::Leaf,
+            Flag::Thread,
+            Flag::Valid,
+            Flag::Physical,
+        ],
+        31,
+    ),
+];
+
 #[test]
 fn flags_of_processors(rt: HostRuntime) -> Result<(), Fail> {
-    let alloc = rt.alloc();
-    flagged(alloc, processor(alloc), 0)?;
-    flagged(alloc, processor(alloc).physical(), 1)?;
-    flagged(alloc, processor(alloc).valid(), 2)?;
-    flagged(alloc, processor(alloc).thread(), 4)?;
-    flagged(alloc, processor(alloc).leaf(), 8)?;
-    flagged(alloc, processor(alloc).identical(), 16)?;
-    let all = processor(alloc).physical().valid().thread().leaf();
-    flagged(alloc, all.identical().leaf(), 31)
+    for (calls, number) in &FLAGS {
+        flagged(rt.alloc(), *calls, *number)?;
+    }
+    Ok(())
 }
 
 #[test]
@@ -200,12 +269,16 @@ fn most_caches() -> [u8; 252] {
     bytes
 }
 
-// A processor with the most caches is added, and one with more can't be made.
-fn takes_most_caches(alloc: Global, table: &mut PPTT) -> Result<(), Fail> {
-    let cache = table.add_cache(cache().to_node())?;
+// A processor with the most caches has these bytes, and one with more can't be made.
+fn has_most_caches(alloc: Global, cache: CacheHandle) -> Result<(), Fail> {
     node(alloc, with_most_caches(alloc, cache)?, &most_caches())?;
     let more = with_most_caches(alloc, cache)?.add_cache(&cache);
-    refuses(more, Error::FieldWidth)?;
+    refuses(more, Error::FieldWidth)
+}
+
+fn takes_most_caches(alloc: Global, table: &mut PPTT) -> Result<(), Fail> {
+    let cache = table.add_cache(cache().to_node())?;
+    has_most_caches(alloc, cache)?;
     table.add_processor(with_most_caches(alloc, cache)?)?;
     // the cache, and the processor before its 58 references
     let fixed = b"\x01\x1c\0\0\0\0\0\0\0\0\0\0\0\0\0\0\0\0\0\0\0\0\0\0\0\0\0\0\
@@ -218,50 +291,52 @@ fn the_most_caches(rt: HostRuntime) -> Result<(), Fail> {
     takes_most_caches(rt.alloc(), &mut table(rt.alloc()))
 }
 
-// Fails unless a cache writes these bytes.
-fn built(alloc: Global, cache: CacheNodeBuilder, wanted: &[u8; 28]) -> Result<(), Fail> {
-    writes(alloc, &cache.to_node(), wanted)
+#[test]
+fn sizes_of_caches() -> Result<(), Fail> {
+    equal(&CacheNode::len(), &28)
 }
 
 #[test]
 fn fields_of_caches(rt: HostRuntime) -> Result<(), Fail> {
-    let alloc = rt.alloc();
-    equal(&CacheNode::len(), &28)?;
-    built(
-        alloc,
-        cache(),
-        b"\x01\x1c\0\0\0\0\0\0\0\0\0\0\0\0\0\0\0\0\0\0\0\0\0\0\0\0\0\0",
-    )?;
-    built(
-        alloc,
-        cache().next_level(&first_cache(alloc)?),
-        b"\x01\x1c\0\0\0\0\0\0\x24\0\0\0\0\0\0\0\0\0\0\0\0\0\0\0\0\0\0\0",
-    )?;
-    built(
-        alloc,
-        cache().size(0x0403_0201),
-        b"\x01\x1c\0\0\x01\0\0\0\0\0\0\0\x01\x02\x03\x04\0\0\0\0\0\0\0\0\0\0\0\0",
-    )?;
-    built(
-        alloc,
-        cache().sets(0x0403_0201),
-        b"\x01\x1c\0\0\x02\0\0\0\0\0\0\0\0\0\0\0\x01\x02\x03\x04\0\0\0\0\0\0\0\0",
-    )?;
-    built(
-        alloc,
-        cache().associativity(0x51),
-        b"\x01\x1c\0\0\x04\0\0\0\0\0\0\0\0\0\0\0\0\0\0\0\x51\0\0\0\0\0\0\0",
-    )?;
-    built(
-        alloc,
-        cache().line_size(0x0201),
-        b"\x01\x1c\0\0\x40\0\0\0\0\0\0\0\0\0\0\0\0\0\0\0\0\0\x01\x02\0\0\0\0",
-    )?;
-    built(
-        alloc,
-        cache().id(0x0403_0201),
-        b"\x01\x1c\0\0\x80\0\0\0\0\0\0\0\0\0\0\0\0\0\0\0\0\0\0\0\x01\x02\x03\x04",
-    )
+    let next = first_cache(rt.alloc())?;
+    for (made, wanted) in &[
+        (
+            cache().to_node(),
+            b"\x01\x1c\0\0\0\0\0\0\0\0\0\0\0\0\0\0\0\0\0\0\0\0\0\0\0\0\0\0",
+        ),
+        (
+            cache().next_level(&next).to_node(),
+            b"\x01\x1c\0\0\0\0\0\0\x24\0\0\0\0\0\0\0\0\0\0\0\0\0\0\0\0\0\0\0",
+        ),
+        (
+            cache().size(0x0403_0201).to_node(),
+            b"\x01\x1c\0\0\x01\0\0\0\0\0\0\0\x01\x02\x03\x04\0\0\0\0\0\0\0\0\0\0\0\0",
+        ),
+        (
+            cache().sets(0x0403_0201).to_node(),
+            b"\x01\x1c\0\0\x02\0\0\0\0\0\0\0\0\0\0\0\x01\x02\x03\x04\0\0\0\0\0\0\0\0",
+        ),
+        (
+            cache().associativity(0x51).to_node(),
+            b"\x01\x1c\0\0\x04\0\0\0\0\0\0\0\0\0\0\0\0\0\0\0\x51\0\0\0\0\0\0\0",
+        ),
+        (
+            cache().line_size(0x0201).to_node(),
+            b"\x01\x1c\0\0\x40\0\0\0\0\0\0\0\0\0\0\0\0\0\0\0\0\0\x01\x02\0\0\0\0",
+        ),
+        (
+            cache().id(0x0403_0201).to_node(),
+            b"\x01\x1c\0\0\x80\0\0\0\0\0\0\0\0\0\0\0\0\0\0\0\0\0\0\0\x01\x02\x03\x04",
+        ),
+    ] {
+        writes(rt.alloc(), made, *wanted)?;
+    }
+    Ok(())
+}
+
+// Fails unless a cache writes these bytes.
+fn built(alloc: Global, cache: CacheNodeBuilder, wanted: &[u8; 28]) -> Result<(), Fail> {
+    writes(alloc, &cache.to_node(), wanted)
 }
 
 #[test]

@@ -131,12 +131,18 @@ fn offsets_of_a_hart_are_counted(rt: HostRuntime) -> Result<(), Fail> {
     equal(&offset_count(rt.alloc(), &string, &[copy, blocks])?, &3)
 }
 
+// Adds a scheme, a string and block sizes, and returns the handles of the last two.
+fn add_others(table: &mut RHCT) -> R<(IsaStringHandle, CmoHandle)> {
+    table.add_mmu_node(VirtualAddressScheme::Sv48)?;
+    let string = table.add_isa_string("rv64")?;
+    let blocks = table.add_cmo(CmoNode::new(9, 10, 11))?;
+    Ok((string, blocks))
+}
+
 // Adds two harts, each with its own string and block sizes.
 fn add_two_harts(alloc: Global, table: &mut RHCT) -> R<()> {
     let (first, blocks) = add_both(table)?;
-    table.add_mmu_node(VirtualAddressScheme::Sv48)?;
-    let second = table.add_isa_string("rv64")?;
-    let others = table.add_cmo(CmoNode::new(9, 10, 11))?;
+    let (second, others) = add_others(table)?;
     table.add_hart_info(hart(alloc, 0x0403_0201, &second, &[others, blocks])?)?;
     table.add_hart_info(hart(alloc, u32::MAX, &first, &[blocks])?)
 }

@@ -347,12 +347,17 @@ fn refers(alloc: Global, iommu: IommuOffset, offset: u8) -> Result<(), Fail> {
     mapping_is(alloc, made, &wanted)
 }
 
-// Adds an IOMMU of 64 bytes, a platform device of 13 and two IOMMUs of 32.
-fn offsets_are_told(alloc: Global, table: &mut RIMT) -> Result<(), Fail> {
+// Adds an IOMMU of 64 bytes and a platform device of 13.
+fn add_first(alloc: Global, table: &mut RIMT) -> Result<(), Fail> {
     let wires = four_wires(alloc)?;
     let first = table.add_iommu(Iommu::new(1, None, None, None, Some(wires)))?;
     refers(alloc, first, 48)?;
-    table.add_platform(Platform::new(2, String::new(alloc), None))?;
+    Ok(table.add_platform(Platform::new(2, String::new(alloc), None))?)
+}
+
+// Adds two IOMMUs of 32 bytes after these.
+fn offsets_are_told(alloc: Global, table: &mut RIMT) -> Result<(), Fail> {
+    add_first(alloc, table)?;
     refers(alloc, add_plain_iommu(table)?, 125)?;
     refers(alloc, add_plain_iommu(table)?, 157)
 }
@@ -362,18 +367,21 @@ fn later_offsets(rt: HostRuntime) -> Result<(), Fail> {
     offsets_are_told(rt.alloc(), &mut table(rt.alloc()))
 }
 
-#[test]
-fn devices_past_a_byte(rt: HostRuntime) -> Result<(), Fail> {
-    let mut table = table(rt.alloc());
+fn takes_devices(alloc: Global, table: &mut RIMT) -> Result<(), Fail> {
     for _ in 0..256u16 {
-        let _ = add_plain_iommu(&mut table)?;
+        let _ = add_plain_iommu(table)?;
     }
     stands(
-        rt.alloc(),
-        &table,
+        alloc,
+        table,
         0,
         b"RIMT\x30\x20\0\0\x01\xf6FOOBARCAFEDEAD\xef\xbe\xad\xdeRVAT\0\0\0\x01\0\x01\0\0\x30\0\0\0\0\0\0\0",
     )?;
     let fixed = b"\0\x01\0\0\x30\0\0\0\0\0\0\0";
-    many(rt.alloc(), &table, b"RIMT", 1, fixed, &PLAIN_IOMMU, 256)
+    many(alloc, table, b"RIMT", 1, fixed, &PLAIN_IOMMU, 256)
+}
+
+#[test]
+fn devices_past_a_byte(rt: HostRuntime) -> Result<(), Fail> {
+    takes_devices(rt.alloc(), &mut table(rt.alloc()))
 }

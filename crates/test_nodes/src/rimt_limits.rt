@@ -42,11 +42,15 @@ fn wired(alloc: Global, count: u16) -> R<Iommu> {
     Ok(Iommu::new(0, None, None, None, Some(wires)))
 }
 
-// An IOMMU of 8,187 wires has these bytes and stands in a table. One of more can't be written, and the table refuses it.
-fn takes_most_wires(alloc: Global, table: &mut RIMT, wanted: &[u8]) -> Result<(), Fail> {
+fn takes_wired(alloc: Global, table: &mut RIMT, wanted: &[u8]) -> Result<(), Fail> {
     iommu(alloc, wired(alloc, 8187)?, wanted)?;
     let _ = table.add_iommu(wired(alloc, 8187)?)?;
-    holds(alloc, table, wanted)?;
+    holds(alloc, table, wanted)
+}
+
+// An IOMMU of 8,187 wires has these bytes and stands in a table. One of more can't be written, and the table refuses it.
+fn takes_most_wires(alloc: Global, table: &mut RIMT, wanted: &[u8]) -> Result<(), Fail> {
+    takes_wired(alloc, table, wanted)?;
     refused(alloc, &wired(alloc, 8188)?)?;
     refuses(table.add_iommu(wired(alloc, 8188)?), Error::FieldWidth)?;
     holds(alloc, table, wanted)
@@ -66,11 +70,15 @@ fn with_mappings(alloc: Global, count: u16) -> R<PcieRootComplex> {
     Ok(PcieRootComplex::new(0x0201, 0x0403, false, false, mappings))
 }
 
-// A root complex of 3,275 mappings has these bytes and stands in a table. One of more can't be written, and the table refuses it.
-fn takes_most_mappings(alloc: Global, table: &mut RIMT, wanted: &[u8]) -> Result<(), Fail> {
+fn takes_mapped(alloc: Global, table: &mut RIMT, wanted: &[u8]) -> Result<(), Fail> {
     root_complex(alloc, with_mappings(alloc, 3275)?, wanted)?;
     table.add_pcie_root_complex(with_mappings(alloc, 3275)?)?;
-    holds(alloc, table, wanted)?;
+    holds(alloc, table, wanted)
+}
+
+// A root complex of 3,275 mappings has these bytes and stands in a table. One of more can't be written, and the table refuses it.
+fn takes_most_mappings(alloc: Global, table: &mut RIMT, wanted: &[u8]) -> Result<(), Fail> {
+    takes_mapped(alloc, table, wanted)?;
     refused(alloc, &with_mappings(alloc, 3276)?)?;
     let more = with_mappings(alloc, 3276)?;
     refuses(table.add_pcie_root_complex(more), Error::FieldWidth)?;
@@ -85,12 +93,16 @@ fn the_most_mappings(rt: HostRuntime) -> Result<(), Fail> {
     takes_most_mappings(rt.alloc(), &mut table(rt.alloc()), &wanted)
 }
 
+fn takes_named(alloc: Global, table: &mut RIMT, wanted: &[u8]) -> Result<(), Fail> {
+    platform(alloc, mapped(alloc, 0x0201, 2, 3276)?, wanted)?;
+    table.add_platform(mapped(alloc, 0x0201, 2, 3276)?)?;
+    holds(alloc, table, wanted)
+}
+
 // A device with a name of two letters and 3,276 mappings has these bytes and stands in a table. One with a longer name can't be
 // written, and the table refuses it.
 fn takes_longest(alloc: Global, table: &mut RIMT, wanted: &[u8]) -> Result<(), Fail> {
-    platform(alloc, mapped(alloc, 0x0201, 2, 3276)?, wanted)?;
-    table.add_platform(mapped(alloc, 0x0201, 2, 3276)?)?;
-    holds(alloc, table, wanted)?;
+    takes_named(alloc, table, wanted)?;
     refused(alloc, &mapped(alloc, 0x0201, 3, 3276)?)?;
     let more = mapped(alloc, 0x0201, 3, 3276)?;
     refuses(table.add_platform(more), Error::FieldWidth)?;

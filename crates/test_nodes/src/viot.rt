@@ -222,14 +222,17 @@ fn refuses_all(table: &mut VIOT, handle: TranslationHandle) -> Result<(), Fail> 
     refuses(table.add_mmio_endpoint(endpoint), Error::FieldWidth)
 }
 
+fn becomes_full(alloc: Global, table: &mut VIOT, handle: TranslationHandle) -> Result<(), Fail> {
+    fill(alloc, table)?;
+    is_full(alloc, table)?;
+    refuses_all(table, handle)?;
+    is_full(alloc, table)
+}
+
 #[test]
 fn a_full_table(rt: HostRuntime) -> Result<(), Fail> {
     let handle = first_handle(rt.alloc())?;
-    let mut table = table(rt.alloc());
-    fill(rt.alloc(), &mut table)?;
-    is_full(rt.alloc(), &table)?;
-    refuses_all(&mut table, handle)?;
-    is_full(rt.alloc(), &table)
+    becomes_full(rt.alloc(), &mut table(rt.alloc()), handle)
 }
 
 // Adds an IOMMU and 2,727 endpoints, which take 65,512 bytes.
@@ -249,14 +252,18 @@ fn has_endpoints(alloc: Global, table: &VIOT) -> Result<(), Fail> {
     many(alloc, table, b"VIOT", 1, fixed, endpoint, 2727)
 }
 
-// A node of 24 bytes would make such a table 65,536 bytes long, and is refused. One of 16 makes it 65,528 bytes long, and another
-// is refused.
-fn add_last(alloc: Global, table: &mut VIOT) -> Result<TranslationHandle, Fail> {
+// A node of 24 bytes would make such a table 65,536 bytes long, and is refused.
+fn takes_endpoints(alloc: Global, table: &mut VIOT) -> Result<(), Fail> {
     let handle = add_endpoints(table)?;
     has_endpoints(alloc, table)?;
     let endpoint = MmioEndpoint::new(0, 0, &handle);
     refuses(table.add_mmio_endpoint(endpoint), Error::FieldWidth)?;
-    has_endpoints(alloc, table)?;
+    has_endpoints(alloc, table)
+}
+
+// One of 16 makes it 65,528 bytes long, and another is refused.
+fn add_last(alloc: Global, table: &mut VIOT) -> Result<TranslationHandle, Fail> {
+    takes_endpoints(alloc, table)?;
     let last = add_iommu(table)?;
     refuses(add_iommu(table), Error::FieldWidth)?;
     Ok(last)

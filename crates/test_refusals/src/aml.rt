@@ -20,21 +20,31 @@ fn settings(alloc: Global) -> R<Name> {
     Name::new(Path::new(alloc, "_CRS")?, &resources)
 }
 
+fn id(alloc: Global) -> R<Name> {
+    Name::new(Path::new(alloc, "_HID")?, &EISAName::new("PNP0501")?)
+}
+
+fn device_of(alloc: Global, id: &Name, settings: &Name) -> R<Device> {
+    let path = Path::new(alloc, "_SB_.COM1")?;
+    Device::new(path, vec![in alloc; id as &dyn Aml, settings]?)
+}
+
 // A serial port.
 fn device(alloc: Global) -> R<Device> {
-    let id = Name::new(Path::new(alloc, "_HID")?, &EISAName::new("PNP0501")?)?;
-    let settings = settings(alloc)?;
-    Device::new(
-        Path::new(alloc, "_SB_.COM1")?,
-        vec![in alloc; &id as &dyn Aml, &settings]?,
-    )
+    let id = id(alloc)?;
+    device_of(alloc, &id, &settings(alloc)?)
+}
+
+fn block(alloc: Global, device: &Device) -> R<Sdt> {
+    let mut table = Sdt::new(alloc, *b"DSDT", 36, 2, OEM, OEM_TABLE, OEM_REVISION)?;
+    append_object(device, &mut table)?;
+    Ok(table)
 }
 
 #[test]
 fn definition_block(rt: HostRuntime) -> Result<(), Fail> {
     let alloc = rt.alloc();
     let device = device(alloc)?;
-    let mut table = Sdt::new(alloc, *b"DSDT", 36, 2, OEM, OEM_TABLE, OEM_REVISION)?;
-    append_object(&device, &mut table)?;
+    let table = block(alloc, &device)?;
     starve_all(alloc, &[(5, &0x0403_0201u32), (50, &device), (86, &table)])
 }

@@ -117,11 +117,17 @@ fn memory(alloc: Global, group: ItsGroupHandle) -> R<ReservedMemory> {
     Ok(memory)
 }
 
+// Adds a group and an SMMU, and returns their handles.
+fn add_both(alloc: Global, iort: &mut IORT) -> R<(ItsGroupHandle, SmmuV3Handle)> {
+    let group = iort.add_its_group(group(alloc)?)?;
+    let node = iort.add_smmu_v3(smmu_v3(alloc, group)?)?;
+    Ok((group, node))
+}
+
 // The table has 160 bytes: 48, a group of one service of 24, and an SMMU with one mapping of 88.
 fn made_iort(alloc: Global) -> R<IORT> {
     let mut iort = empty_iort(alloc);
-    let group = iort.add_its_group(group(alloc)?)?;
-    iort.add_smmu_v3(smmu_v3(alloc, group)?)?;
+    add_both(alloc, &mut iort)?;
     Ok(iort)
 }
 
@@ -154,9 +160,7 @@ fn iort_smmus(rt: HostRuntime) -> Result<(), Fail> {
 #[test]
 fn iort_memory(rt: HostRuntime) -> Result<(), Fail> {
     let alloc = rt.alloc();
-    let mut iort = empty_iort(alloc);
-    let group = iort.add_its_group(group(alloc)?)?;
-    let node = iort.add_smmu_v3(smmu_v3(alloc, group)?)?;
+    let (group, node) = add_both(alloc, &mut empty_iort(alloc))?;
     starve(alloc, 20, &MemoryRange::new(0x1_0000, 0x2_0000))?;
     starve_made(alloc, 60, counters(alloc, group, node))?;
     starve_made(alloc, 68, memory(alloc, group))

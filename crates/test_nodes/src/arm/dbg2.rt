@@ -22,7 +22,7 @@ fn is_of_port(alloc: Global, device: DebugDevice, [kind, low, high]: [u8; 3]) ->
 #[test]
 fn ports(rt: HostRuntime) -> Result<(), Fail> {
     let alloc = rt.alloc();
-    for (port, numbers) in [
+    for (port, numbers) in &[
         (DebugPort::Serial(InterfaceType::Uart16550), [0, 0, 0]),
         (DebugPort::Serial(InterfaceType::ArmPl011), [0, 3, 0]),
         (DebugPort::Serial(InterfaceType::ArmSbsa32Bit), [0, 13, 0]),
@@ -38,7 +38,7 @@ fn ports(rt: HostRuntime) -> Result<(), Fail> {
         (DebugPort::UsbEhci, [2, 1, 0]),
         (DebugPort::Net(0x8086), [3, 0x86, 0x80]),
     ] {
-        is_of_port(alloc, DebugDevice::new(alloc, port), numbers)?;
+        is_of_port(alloc, DebugDevice::new(alloc, *port), *numbers)?;
     }
     Ok(())
 }

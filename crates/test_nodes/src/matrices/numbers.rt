@@ -8,7 +8,7 @@ use test_support::equal;
 
 #[test]
 fn matrices() -> Result<(), Fail> {
-    for (number, wanted) in [
+    for (number, wanted) in &[
         (LocalityType::Memory as u32, 0),
         (LocalityType::FirstLevelCache as u32, 1),
         (LocalityType::SecondLevelCache as u32, 2),
@@ -42,7 +42,7 @@ fn matrices() -> Result<(), Fail> {
         (WritePolicy::Writeback as u32, 1),
         (WritePolicy::Writethrough as u32, 2),
     ] {
-        equal(&number, &wanted)?;
+        equal(number, wanted)?;
     }
     Ok(())
 }

@@ -1,5 +1,6 @@
 //! PCCT and its subspaces.
 
+use crate::tables::is;
 use acpi_base::error::R;
 use acpi_tables::gas::{AccessSize, AddressSpace, GAS};
 use acpi_tables::pcct::{
@@ -7,9 +8,10 @@ use acpi_tables::pcct::{
     Interrupt, Masked, PCCT, PLATFORM_INTERRUPT, ReducedSubspace, RegisterChannel,
     RegistersSubspace, Role,
 };
+use std::alloc::Global;
 use std::test::Fail;
-use test_support::table::{joined, table};
-use test_support::{OEM, OEM_REVISION, OEM_TABLE, equal, writes};
+use test_support::table::joined;
+use test_support::{OEM, OEM_REVISION, OEM_TABLE, equal};
 
 const BASE: u64 = 0x1817_1615_1413_1211;
 
@@ -129,12 +131,8 @@ const EXTENDED: [&[u8]; 14] = [
     MASK,
 ];
 
-#[test]
-fn pcct(rt: HostRuntime) -> Result<(), Fail> {
-    let alloc = rt.alloc();
-    let mut pcct = PCCT::new(alloc, OEM, OEM_TABLE, OEM_REVISION, PLATFORM_INTERRUPT);
-    add_each(&mut pcct)?;
-    equal(&(pcct.len(), pcct.count()), &(686, 6))?;
+// The bytes after the header, for a subspace of each type and of each role.
+fn body(alloc: Global) -> R<Vec<u8>> {
     let channel = joined(alloc, &[MEMORY, DOORBELL, BITS, TIMES])?;
     let extended = joined(alloc, &EXTENDED)?;
     let parts: [&[u8]; 23] = [
@@ -162,5 +160,17 @@ fn pcct(rt: HostRuntime) -> Result<(), Fail> {
         b"\x01\x02\x03\x04",
         b"\x09\x0a\x0b\x0c",
     ];
-    writes(alloc, &pcct, &table(alloc, b"PCCT", 2, &parts)?)
+    joined(alloc, &parts)
+}
+
+fn takes_each(alloc: Global, pcct: &mut PCCT) -> Result<(), Fail> {
+    add_each(pcct)?;
+    equal(&(pcct.len(), pcct.count()), &(686, 6))?;
+    is(alloc, pcct, b"PCCT", 2, &[&body(alloc)?])
+}
+
+#[test]
+fn pcct(rt: HostRuntime) -> Result<(), Fail> {
+    let mut pcct = PCCT::new(rt.alloc(), OEM, OEM_TABLE, OEM_REVISION, PLATFORM_INTERRUPT);
+    takes_each(rt.alloc(), &mut pcct)
 }

@@ -1,5 +1,6 @@
 //! IVRS, its blocks and their device entries.
 
+use crate::tables::is;
 use acpi_base::error::{Error, R};
 use acpi_tables::ivrs::{
     AcpiDevice, DeviceEntry, ExtendedIvhd, ExtendedType, IVRS, Iommu, IvInfo, Ivhd, Ivmd,
@@ -7,7 +8,7 @@ use acpi_tables::ivrs::{
 };
 use std::alloc::Global;
 use std::test::Fail;
-use test_support::table::{joined, table};
+use test_support::table::joined;
 use test_support::{OEM, OEM_REVISION, OEM_TABLE, all, equal, refuses, writes};
 
 const QEMU: &[u8] = b"\0\x28\0\0\0\0\0\0\0\0\0\0\
@@ -32,21 +33,28 @@ fn qemu_unit(alloc: Global) -> R<Ivhd> {
     Ok(unit)
 }
 
+fn becomes_qemus(alloc: Global, ivrs: &mut IVRS) -> Result<(), Fail> {
+    ivrs.add_ivhd(qemu_unit(alloc)?)?;
+    equal(&(ivrs.len(), ivrs.count()), &(104, 1))?;
+    is(alloc, ivrs, b"IVRS", 1, &[QEMU])
+}
+
 // The table that QEMU 7.2 writes for a Q35 with an AMD IOMMU.
 #[test]
 fn of_qemu(rt: HostRuntime) -> Result<(), Fail> {
-    let alloc = rt.alloc();
     let info = IvInfo::new(0, 40, 0);
-    let mut ivrs = IVRS::of_revision(alloc, 1, OEM, OEM_TABLE, OEM_REVISION, info);
-    ivrs.add_ivhd(qemu_unit(alloc)?)?;
-    equal(&(ivrs.len(), ivrs.count()), &(104, 1))?;
-    writes(alloc, &ivrs, &table(alloc, b"IVRS", 1, &[QEMU])?)
+    let mut ivrs = IVRS::of_revision(rt.alloc(), 1, OEM, OEM_TABLE, OEM_REVISION, info);
+    becomes_qemus(rt.alloc(), &mut ivrs)
+}
+
+fn has_info(alloc: Global, info: IvInfo, bytes: &[u8]) -> Result<(), Fail> {
+    let ivrs = IVRS::new(alloc, OEM, OEM_TABLE, OEM_REVISION, info);
+    is(alloc, &ivrs, b"IVRS", 2, &[bytes, &[0; 8]])
 }
 
 #[test]
 fn infos(rt: HostRuntime) -> Result<(), Fail> {
-    let alloc = rt.alloc();
-    for (info, bytes) in [
+    for (info, bytes) in &[
         (IvInfo::new(0, 0, 0), [0, 0, 0, 0]),
         (IvInfo::new(7, 0, 0), [0xe0, 0, 0, 0]),
         (IvInfo::new(0, 127, 0), [0, 0x7f, 0, 0]),
@@ -61,8 +69,7 @@ fn infos(rt: HostRuntime) -> Result<(), Fail> {
             [0x41, 0x30, 0x60, 0],
         ),
     ] {
-        let ivrs = IVRS::new(alloc, OEM, OEM_TABLE, OEM_REVISION, info);
-        writes(alloc, &ivrs, &table(alloc, b"IVRS", 2, &[&bytes, &[0; 8]])?)?;
+        has_info(rt.alloc(), *info, bytes)?;
     }
     Ok(())
 }
@@ -85,25 +92,23 @@ const ENTRIES: &[u8] = b"\x01\0\0\x41\x02\x01\x02\x42\x03\x03\x04\x43\x04\x05\x0
     \x46\x0f\x10\x46\x01\x02\x03\x80\x47\x11\x12\x47\x04\x05\x06\x07\
     \x48\0\0\x48\x0b\x13\x14\x01\x48\0\0\x49\x0c\x15\x16\x02";
 
-fn entries() -> [DeviceEntry; 10] {
-    [
-        DeviceEntry::All(0x41),
-        DeviceEntry::Select(0x0201, 0x42),
-        DeviceEntry::RangeStart(0x0403, 0x43),
-        DeviceEntry::RangeEnd(0x0605),
-        DeviceEntry::Alias(0x0807, 0x44, 0x0a09),
-        DeviceEntry::AliasRangeStart(0x0c0b, 0x45, 0x0e0d),
-        DeviceEntry::Extended(0x100f, 0x46, 0x8003_0201),
-        DeviceEntry::ExtendedRangeStart(0x1211, 0x47, 0x0706_0504),
-        DeviceEntry::Special(0x48, 0x0b, 0x1413, SpecialDevice::IoApic),
-        DeviceEntry::Special(0x49, 0x0c, 0x1615, SpecialDevice::Hpet),
-    ]
-}
+const EACH_ENTRY: [DeviceEntry; 10] = [
+    DeviceEntry::All(0x41),
+    DeviceEntry::Select(0x0201, 0x42),
+    DeviceEntry::RangeStart(0x0403, 0x43),
+    DeviceEntry::RangeEnd(0x0605),
+    DeviceEntry::Alias(0x0807, 0x44, 0x0a09),
+    DeviceEntry::AliasRangeStart(0x0c0b, 0x45, 0x0e0d),
+    DeviceEntry::Extended(0x100f, 0x46, 0x8003_0201),
+    DeviceEntry::ExtendedRangeStart(0x1211, 0x47, 0x0706_0504),
+    DeviceEntry::Special(0x48, 0x0b, 0x1413, SpecialDevice::IoApic),
+    DeviceEntry::Special(0x49, 0x0c, 0x1615, SpecialDevice::Hpet),
+];
 
 fn ivhd(alloc: Global) -> R<Ivhd> {
     let mut unit = Ivhd::new(alloc, IOMMU, 0x0c0b_0a09);
-    for entry in entries() {
-        unit.add_entry(entry)?;
+    for entry in &EACH_ENTRY {
+        unit.add_entry(*entry)?;
     }
     Ok(unit)
 }
@@ -112,12 +117,11 @@ const HID: [u8; 8] = *b"AMDI0020";
 
 const CID: [u8; 8] = [0; 8];
 
-fn acpi_devices(alloc: Global) -> R<[AcpiDevice; 3]> {
-    Ok([
-        AcpiDevice::new(alloc, 0x0201, 0x4a, HID, CID),
-        AcpiDevice::of_number(alloc, 0x0403, 0x4b, HID, CID, BASE)?,
-        AcpiDevice::of_text(alloc, 0x0605, 0x4c, HID, CID, "U0")?,
-    ])
+// Adds a device without a unique ID, one whose ID is a number, and one whose ID is a text.
+fn add_devices(alloc: Global, unit: &mut ExtendedIvhd) -> R<()> {
+    unit.add_acpi_device(&AcpiDevice::new(alloc, 0x0201, 0x4a, HID, CID))?;
+    unit.add_acpi_device(&AcpiDevice::of_number(alloc, 0x0403, 0x4b, HID, CID, BASE)?)?;
+    unit.add_acpi_device(&AcpiDevice::of_text(alloc, 0x0605, 0x4c, HID, CID, "U0")?)
 }
 
 const ACPI_DEVICES: &[u8] = b"\xf0\x01\x02\x4aAMDI0020\0\0\0\0\0\0\0\0\0\0\
@@ -126,9 +130,7 @@ const ACPI_DEVICES: &[u8] = b"\xf0\x01\x02\x4aAMDI0020\0\0\0\0\0\0\0\0\0\0\
 
 fn extended(alloc: Global, kind: ExtendedType) -> R<ExtendedIvhd> {
     let mut unit = ExtendedIvhd::new(alloc, kind, IOMMU, 0x0c0b_0a09, SIZE, BASE);
-    for device in &acpi_devices(alloc)? {
-        unit.add_acpi_device(device)?;
-    }
+    add_devices(alloc, &mut unit)?;
     unit.add_entry(DeviceEntry::All(0))?;
     Ok(unit)
 }
@@ -187,28 +189,37 @@ fn fill(unit: &mut Ivhd) -> R<()> {
     unit.add_entry(DeviceEntry::All(0))
 }
 
+fn takes_no_more(unit: &mut Ivhd, device: &AcpiDevice) -> Result<(), Fail> {
+    refuses(unit.add_entry(DeviceEntry::All(0)), Error::FieldWidth)?;
+    refuses(unit.add_acpi_device(device), Error::FieldWidth)
+}
+
 // A block has room for 65,511 bytes of entries: these have 65,508.
 #[test]
 fn the_most_entries(rt: HostRuntime) -> Result<(), Fail> {
-    let alloc = rt.alloc();
-    let mut unit = Ivhd::new(alloc, IOMMU, 0);
+    let mut unit = Ivhd::new(rt.alloc(), IOMMU, 0);
     fill(&mut unit)?;
-    refuses(unit.add_entry(DeviceEntry::All(0)), Error::FieldWidth)?;
-    refuses(
-        unit.add_acpi_device(&AcpiDevice::new(alloc, 0, 0, HID, CID)),
-        Error::FieldWidth,
-    )
+    takes_no_more(&mut unit, &AcpiDevice::new(rt.alloc(), 0, 0, HID, CID))
 }
 
 // A block with one of each kind, in the order of the calls.
-#[test]
-fn a_table(rt: HostRuntime) -> Result<(), Fail> {
-    let alloc = rt.alloc();
-    let mut ivrs = IVRS::new(alloc, OEM, OEM_TABLE, OEM_REVISION, IvInfo::new(0, 0, 0));
+fn takes_blocks(alloc: Global, ivrs: &mut IVRS) -> Result<(), Fail> {
     ivrs.add_extended_ivhd(ExtendedIvhd::new(alloc, ExtendedType::Functions, IOMMU, 0, 0, 0))?;
     ivrs.add_ivmd(Ivmd::new(Peripherals::All, 0, 0))?;
     equal(&(ivrs.len(), ivrs.count()), &(120, 2))?;
     let first = b"\x11\x3f\x28\0\x01\x02\x03\x04\x11\x12\x13\x14\x15\x16\x17\x18\x05\x06\x07\x08";
-    let parts: [&[u8]; 5] = [&[0; 12], first, &[0; 20], b"\x20\0\x20", &[0; 29]];
-    writes(alloc, &ivrs, &table(alloc, b"IVRS", 2, &parts)?)
+    is(
+        alloc,
+        ivrs,
+        b"IVRS",
+        2,
+        &[&[0; 12], first, &[0; 20], b"\x20\0\x20", &[0; 29]],
+    )
+}
+
+#[test]
+fn a_table(rt: HostRuntime) -> Result<(), Fail> {
+    let info = IvInfo::new(0, 0, 0);
+    let mut ivrs = IVRS::new(rt.alloc(), OEM, OEM_TABLE, OEM_REVISION, info);
+    takes_blocks(rt.alloc(), &mut ivrs)
 }

@@ -1,5 +1,6 @@
 //! NFIT and its structures.
 
+use crate::tables::is;
 use acpi_base::error::{Error, R};
 use acpi_base::patch::write_at;
 use acpi_tables::nfit::{
@@ -8,7 +9,6 @@ use acpi_tables::nfit::{
 };
 use std::alloc::Global;
 use std::test::Fail;
-use test_support::table::table;
 use test_support::{OEM, OEM_REVISION, OEM_TABLE, all, equal, refuses, sized, writes};
 
 // The range of addresses of a module of 128 MiB, in a PC of QEMU 7.2 and in its Arm machine `virt`.
@@ -36,24 +36,36 @@ fn add_module(nfit: &mut NFIT, base: u64, domain: u32) -> R<()> {
     nfit.add_control_region(ControlRegion::new(5, 0x8086, 1, 1, 0x12_3457, 0x301))
 }
 
+// The bytes before the structures.
+const FIXED: &[u8] = b"\0\0\0\0";
+
+fn takes_module(
+    alloc: Global,
+    nfit: &mut NFIT,
+    base: u64,
+    domain: u32,
+    range: &[u8],
+) -> Result<(), Fail> {
+    is(alloc, nfit, b"NFIT", 1, &[FIXED])?;
+    add_module(nfit, base, domain)?;
+    is(alloc, nfit, b"NFIT", 1, &[FIXED, range, MODULE])?;
+    nfit.add_capabilities(Capabilities::new(1).cache_flush().controller_flush())?;
+    equal(&(nfit.len(), nfit.count()), &(240, 4))?;
+    is(
+        alloc,
+        nfit,
+        b"NFIT",
+        1,
+        &[FIXED, range, MODULE, CAPABILITIES],
+    )
+}
+
 // The tables that QEMU 7.2 writes for a PC and for `virt`. That of `virt` has no capabilities.
 #[test]
 fn of_qemu(rt: HostRuntime) -> Result<(), Fail> {
-    let alloc = rt.alloc();
-    let none: &[u8] = b"\0\0\0\0";
     for (base, domain, range) in [(0x1_0800_0000, 2, PC_RANGE), (0x8800_0000, 1, VIRT_RANGE)] {
-        let mut nfit = NFIT::new(alloc, OEM, OEM_TABLE, OEM_REVISION);
-        writes(alloc, &nfit, &table(alloc, b"NFIT", 1, &[none])?)?;
-        add_module(&mut nfit, base, domain)?;
-        writes(
-            alloc,
-            &nfit,
-            &table(alloc, b"NFIT", 1, &[none, range, MODULE])?,
-        )?;
-        nfit.add_capabilities(Capabilities::new(1).cache_flush().controller_flush())?;
-        equal(&(nfit.len(), nfit.count()), &(240, 4))?;
-        let parts = [none, range, MODULE, CAPABILITIES];
-        writes(alloc, &nfit, &table(alloc, b"NFIT", 1, &parts)?)?;
+        let mut nfit = NFIT::new(rt.alloc(), OEM, OEM_TABLE, OEM_REVISION);
+        takes_module(rt.alloc(), &mut nfit, base, domain, range)?;
     }
     Ok(())
 }
@@ -68,7 +80,7 @@ fn is_of_type(alloc: Global, kind: RangeType, guid: [u8; 16]) -> Result<(), Fail
 
 #[test]
 fn types_of_ranges(rt: HostRuntime) -> Result<(), Fail> {
-    for (kind, guid) in [
+    for (kind, guid) in &[
         // 7305944f-fdda-44e3-b16c-3f22d252e5d0
         (
             RangeType::Volatile,
@@ -114,7 +126,7 @@ fn types_of_ranges(rt: HostRuntime) -> Result<(), Fail> {
             *b"0123456789abcdef",
         ),
     ] {
-        is_of_type(rt.alloc(), kind, guid)?;
+        is_of_type(rt.alloc(), *kind, *guid)?;
     }
     Ok(())
 }
@@ -199,25 +211,29 @@ fn records(rt: HostRuntime) -> Result<(), Fail> {
     )
 }
 
-// A pattern of this many lines, and a hint of this many addresses.
-fn lists(alloc: Global, lines: u32, addresses: u64) -> R<(Interleave, FlushHint)> {
+// A pattern of this many lines.
+fn interleave(alloc: Global, lines: u32) -> R<Interleave> {
     let mut interleave = Interleave::new(alloc, 0x0201, 0x1817_1615);
     for line in 0..lines {
         interleave.add_line(line.wrapping_add(0x0403_0201))?;
     }
+    Ok(interleave)
+}
+
+// A hint of this many addresses.
+fn hint(alloc: Global, addresses: u64) -> R<FlushHint> {
     let mut hint = FlushHint::new(alloc, 0x0403_0201);
     for address in 0..addresses {
         hint.add_address(address.wrapping_add(BASE))?;
     }
-    Ok((interleave, hint))
+    Ok(hint)
 }
 
 fn add_lists(alloc: Global, nfit: &mut NFIT) -> R<()> {
-    let (interleave, hint) = lists(alloc, 2, 2)?;
-    nfit.add_interleave(interleave)?;
+    nfit.add_interleave(interleave(alloc, 2)?)?;
     nfit.add_smbios_information(SmbiosInformation::new(alloc, b"\x11\x03\x01")?)?;
     nfit.add_data_window(DataWindow::new(0, 0, 0, 0, 0, 0))?;
-    nfit.add_flush_hint(hint)
+    nfit.add_flush_hint(hint(alloc, 2)?)
 }
 
 const LISTS: &[u8] = b"\0\0\0\0\
@@ -227,26 +243,40 @@ const LISTS: &[u8] = b"\0\0\0\0\
     \x06\0\x20\0\x01\x02\x03\x04\x02\0\0\0\0\0\0\0\
     \x11\x12\x13\x14\x15\x16\x17\x18\x12\x12\x13\x14\x15\x16\x17\x18";
 
+fn takes_lists(alloc: Global, nfit: &mut NFIT) -> Result<(), Fail> {
+    add_lists(alloc, nfit)?;
+    is(alloc, nfit, b"NFIT", 1, &[LISTS])
+}
+
 #[test]
 fn structures_with_lists(rt: HostRuntime) -> Result<(), Fail> {
-    let alloc = rt.alloc();
-    let mut nfit = NFIT::new(alloc, OEM, OEM_TABLE, OEM_REVISION);
-    add_lists(alloc, &mut nfit)?;
-    writes(alloc, &nfit, &table(alloc, b"NFIT", 1, &[LISTS])?)
+    let mut nfit = NFIT::new(rt.alloc(), OEM, OEM_TABLE, OEM_REVISION);
+    takes_lists(rt.alloc(), &mut nfit)
+}
+
+fn takes_no_line(interleave: &mut Interleave) -> Result<(), Fail> {
+    refuses(interleave.add_line(0), Error::FieldWidth)?;
+    equal(&interleave.line_count(), &16_379)
+}
+
+fn takes_no_address(hint: &mut FlushHint) -> Result<(), Fail> {
+    refuses(hint.add_address(0), Error::FieldWidth)?;
+    equal(&hint.address_count(), &8_189)
 }
 
 #[test]
 fn the_longest_lists(rt: HostRuntime) -> Result<(), Fail> {
-    let alloc = rt.alloc();
-    let (mut interleave, mut hint) = lists(alloc, 16_379, 8_189)?;
-    refuses(interleave.add_line(0), Error::FieldWidth)?;
-    refuses(hint.add_address(0), Error::FieldWidth)?;
-    equal(
-        &(interleave.line_count(), hint.address_count()),
-        &(16_379, 8_189),
-    )?;
-    let data = vec![in alloc; 0xa5; 65_527]?;
-    sized(alloc, &SmbiosInformation::new(alloc, &data)?, 65_535)?;
-    let more = vec![in alloc; 0xa5; 65_528]?;
-    refuses(SmbiosInformation::new(alloc, &more), Error::FieldWidth)
+    takes_no_line(&mut interleave(rt.alloc(), 16_379)?)?;
+    takes_no_address(&mut hint(rt.alloc(), 8_189)?)
+}
+
+// Information of this many bytes.
+fn information(alloc: Global, size: usize) -> R<SmbiosInformation> {
+    SmbiosInformation::new(alloc, &vec![in alloc; 0xa5; size]?)
+}
+
+#[test]
+fn the_longest_information(rt: HostRuntime) -> Result<(), Fail> {
+    sized(rt.alloc(), &information(rt.alloc(), 65_527)?, 65_535)?;
+    refuses(information(rt.alloc(), 65_528), Error::FieldWidth)
 }

@@ -1,11 +1,11 @@
 //! ERST and its entries.
 
+use crate::tables::is;
 use acpi_base::error::R;
 use acpi_tables::erst::{Action, ERST, Instruction, SerializationEntry};
 use acpi_tables::gas::{AccessSize, AddressSpace, GAS};
 use std::alloc::Global;
 use std::test::Fail;
-use test_support::table::table;
 use test_support::{OEM, OEM_REVISION, OEM_TABLE, equal, writes};
 
 fn step(action: Action, instruction: Instruction) -> SerializationEntry {
@@ -129,7 +129,7 @@ fn add_entries(erst: &mut ERST, action: u64, value: u64) -> R<()> {
     let action = register(32, AccessSize::DwordAccess, action);
     let wide = register(64, AccessSize::QwordAccess, value);
     let value = register(32, AccessSize::DwordAccess, value);
-    for (operation, instruction, register, number, mask) in [
+    for (operation, instruction, register, number, mask) in &[
         (
             Action::BeginWrite,
             Instruction::WriteRegisterValue,
@@ -314,7 +314,13 @@ fn add_entries(erst: &mut ERST, action: u64, value: u64) -> R<()> {
             ALL,
         ),
     ] {
-        erst.add_entry(SerializationEntry::new(operation, instruction, register, number, mask))?;
+        erst.add_entry(SerializationEntry::new(
+            *operation,
+            *instruction,
+            *register,
+            *number,
+            *mask,
+        ))?;
     }
     Ok(())
 }
@@ -379,20 +385,32 @@ const ENTRIES_OF_MICROVM: &[u8] = b"\x30\0\0\0\0\0\0\0\x1b\0\0\0\
     \x10\x03\0\0\0\x20\0\x03\xff\xff\xff\xff\xff\xff\xff\xff\x10\0\0\0\0\0\0\0\xff\xff\xff\xff\0\0\0\0\
     \x10\0\0\0\0\x40\0\x04\x07\0\0\0\0\0\0\0\0\0\0\0\0\0\0\0\xff\xff\xff\xff\xff\xff\xff\xff";
 
+fn becomes_qemus(
+    alloc: Global,
+    erst: &mut ERST,
+    action: u64,
+    value: u64,
+    wanted: &[u8],
+) -> Result<(), Fail> {
+    add_entries(erst, action, value)?;
+    equal(&(erst.len(), erst.count()), &(912, 27))?;
+    is(alloc, erst, b"ERST", 1, &[wanted])
+}
+
+fn table(alloc: Global) -> ERST {
+    ERST::new(alloc, OEM, OEM_TABLE, OEM_REVISION)
+}
+
 #[test]
 fn erst(rt: HostRuntime) -> Result<(), Fail> {
     let alloc = rt.alloc();
-    let erst = ERST::new(alloc, OEM, OEM_TABLE, OEM_REVISION);
-    let none = table(alloc, b"ERST", 1, &[b"\x30\0\0\0\0\0\0\0\0\0\0\0"])?;
-    writes(alloc, &erst, &none)?;
-    for (action, value, wanted) in [
-        (0xfebf_3000, 0xfebf_3008, ENTRIES),
-        (0xffff_ffff_ffff_ffff, 7, ENTRIES_OF_MICROVM),
-    ] {
-        let mut erst = ERST::new(alloc, OEM, OEM_TABLE, OEM_REVISION);
-        add_entries(&mut erst, action, value)?;
-        equal(&(erst.len(), erst.count()), &(912, 27))?;
-        writes(alloc, &erst, &table(alloc, b"ERST", 1, &[wanted])?)?;
-    }
-    Ok(())
+    is(
+        alloc,
+        &table(alloc),
+        b"ERST",
+        1,
+        &[b"\x30\0\0\0\0\0\0\0\0\0\0\0"],
+    )?;
+    becomes_qemus(alloc, &mut table(alloc), 0xfebf_3000, 0xfebf_3008, ENTRIES)?;
+    becomes_qemus(alloc, &mut table(alloc), u64::MAX, 7, ENTRIES_OF_MICROVM)
 }

@@ -2,6 +2,7 @@
 
 use crate::tables::joined::{joined, reported};
 use crate::tables::samples::{COUNT, Sample, nth};
+use acpi_base::error::R;
 use acpi_read::report::report_table;
 use acpi_read::table::Table;
 use acpi_term::read_error::ReadError;
@@ -32,35 +33,50 @@ fn error_of(sample: &Sample, size: usize) -> Option<ReadError> {
     }
 }
 
+fn mended(alloc: Global, bytes: &[u8]) -> R<Vec<u8>> {
+    let mut mended = Vec::from_slice(alloc, bytes)?;
+    mend(&mut mended);
+    Ok(mended)
+}
+
+// Fails unless the first part of a table, with the right length and sum, has the structures that it should have.
+fn is_cut(alloc: Global, sample: &Sample, part: &[u8]) -> Result<(), Fail> {
+    let table = Table::check(part)?;
+    let wanted = error_of(sample, part.len());
+    equal(&table.structures(alloc).err(), &wanted)?;
+    let in_pieces = wanted.filter(|_| sample.has_pieces());
+    equal(&table.pieces(alloc).err(), &in_pieces)?;
+    equal(&report_table(alloc, &table).err(), &in_pieces)?;
+    equal(&reported(alloc, sample, part)?.is_none(), &wanted.is_some())
+}
+
+// Fails unless the first part of a table is refused.
+fn is_begun(alloc: Global, sample: &Sample, part: &[u8]) -> Result<(), Fail> {
+    let wanted = match part.len() {
+        size @ ..36 => ReadError::ShortHeader(size),
+        _ => ReadError::TableLength(4),
+    };
+    equal(&Table::check(part).err(), &Some(wanted))?;
+    if part.len() < 36 {
+        return Ok(());
+    }
+    is_cut(alloc, sample, &mended(alloc, part)?)
+}
+
+fn all_are_begun(alloc: Global, sample: &Sample, bytes: &[u8]) -> Result<(), Fail> {
+    equal(&reported(alloc, sample, bytes)?.is_some(), &true)?;
+    for size in 0..bytes.len() {
+        is_begun(alloc, sample, &bytes[..size])?;
+    }
+    Ok(())
+}
+
 // Each first part of a table of each signature: unchanged, and with the right length and sum.
 #[test]
 fn beginnings(rt: HostRuntime) -> Result<(), Fail> {
-    let alloc = rt.alloc();
     for index in 0..COUNT {
         let sample = nth(index);
-        let bytes = sample.bytes(alloc)?;
-        equal(&reported(alloc, &sample, &bytes)?.is_some(), &true)?;
-        for size in 0..bytes.len() {
-            let wanted = match size {
-                ..36 => ReadError::ShortHeader(size),
-                _ => ReadError::TableLength(4),
-            };
-            equal(&Table::check(&bytes[..size]).err(), &Some(wanted))?;
-            if size >= 36 {
-                let mut part = Vec::from_slice(alloc, &bytes[..size])?;
-                mend(&mut part);
-                let table = Table::check(&part)?;
-                let wanted = error_of(&sample, size);
-                equal(&table.structures(alloc).err(), &wanted)?;
-                let in_pieces = wanted.filter(|_| sample.has_pieces());
-                equal(&table.pieces(alloc).err(), &in_pieces)?;
-                equal(&report_table(alloc, &table).err(), &in_pieces)?;
-                equal(
-                    &reported(alloc, &sample, &part)?.is_none(),
-                    &wanted.is_some(),
-                )?;
-            }
-        }
+        all_are_begun(rt.alloc(), &sample, &sample.bytes(rt.alloc())?)?;
     }
     Ok(())
 }
@@ -72,27 +88,37 @@ fn add(bytes: &mut [u8], at: usize, more: u8) {
     }
 }
 
+// A table whose structures, of this number, are there 5,000 times.
+fn repeated(alloc: Global, sample: &Sample, bytes: &[u8], once: usize) -> R<Vec<u8>> {
+    let (_, structures) = bytes.split_at(sample.start.min(bytes.len()));
+    let mut many = Vec::from_slice(alloc, bytes)?;
+    for _ in 1..5_000u32 {
+        many.extend_from_slice(structures)?;
+    }
+    if sample.count > 0 {
+        let [low, high, ..] = once.wrapping_mul(4_999).to_le_bytes();
+        add(&mut many, sample.count, low);
+        add(&mut many, sample.count.wrapping_add(1), high);
+    }
+    mend(&mut many);
+    Ok(many)
+}
+
+fn is_repeated(alloc: Global, sample: &Sample, bytes: &[u8]) -> Result<(), Fail> {
+    let once = reported(alloc, sample, bytes)?.ok_or("structures")?;
+    let many = repeated(alloc, sample, bytes, once)?;
+    equal(
+        &reported(alloc, sample, &many)?,
+        &Some(once.wrapping_mul(5_000)),
+    )
+}
+
 // Tables with 5,000 times the structures. They have more than 65,535 bytes.
 #[test]
 fn later_offsets(rt: HostRuntime) -> Result<(), Fail> {
-    let alloc = rt.alloc();
     for index in 0..COUNT {
         let sample = nth(index);
-        let bytes = sample.bytes(alloc)?;
-        let once = reported(alloc, &sample, &bytes)?.ok_or("structures")?;
-        let wanted = once.wrapping_mul(5_000);
-        let (_, structures) = bytes.split_at(sample.start.min(bytes.len()));
-        let mut many = Vec::from_slice(alloc, &bytes)?;
-        for _ in 1..5_000u32 {
-            many.extend_from_slice(structures)?;
-        }
-        if sample.count > 0 {
-            let [low, high, ..] = wanted.wrapping_sub(once).to_le_bytes();
-            add(&mut many, sample.count, low);
-            add(&mut many, sample.count.wrapping_add(1), high);
-        }
-        mend(&mut many);
-        equal(&reported(alloc, &sample, &many)?, &Some(wanted))?;
+        is_repeated(rt.alloc(), &sample, &sample.bytes(rt.alloc())?)?;
     }
     Ok(())
 }

@@ -4,7 +4,7 @@ use Rattle.acpi_base.specs.FurtherWalk.{table_walk_of}
 use Rattle.acpi_base.specs.Table.{IsTrueTable}
 use Rattle.acpi_forms.specs.Kind.{kind_of}
 use Rattle.acpi_forms.specs.Named.{names_of}
-use Rattle.acpi_make.specs.declared.file_kind.FileKind.TheVariants.{Rsdp, Facs, Table}
+use Rattle.acpi_make.specs.declared.file_kind.FileKind.TheVariants.{Rsdp, Facs, Cdat, S3pt, Table}
 use Rattle.acpi_c_calls.specs.Findings.{AreLinesBy}
 use Rattle.acpi_c_calls.proofs.Ruled.{outcome}
 use Rattle.acpi_c_calls.proofs.findings.found.Goals as goal
@@ -18,6 +18,16 @@ pub returns-in-Facs : goal.returns-in-Facs
 returns-in-Facs c =
     let kind : kind_of c.args.bytes.now ≡ Facs = search rules in
     outcome (λ text. text.items) c.control_lines.result Facs c.args.bytes.now kind tt c.control_lines.ensures.ok c.control_lines.ensures.err
+
+pub returns-in-Cdat : goal.returns-in-Cdat
+returns-in-Cdat c =
+    let kind : kind_of c.args.bytes.now ≡ Cdat = search rules in
+    outcome (λ text. text.items) c.coherent_lines.result Cdat c.args.bytes.now kind tt c.coherent_lines.ensures.ok c.coherent_lines.ensures.err
+
+pub returns-in-S3pt : goal.returns-in-S3pt
+returns-in-S3pt c =
+    let kind : kind_of c.args.bytes.now ≡ S3pt = search rules in
+    outcome (λ text. text.items) c.performance_lines.result S3pt c.args.bytes.now kind tt c.performance_lines.ensures.ok c.performance_lines.ensures.err
 
 pub returns-in_ok-table-in-Table : goal.returns-in_ok-table-in-Table
 returns-in_ok-table-in-Table c =

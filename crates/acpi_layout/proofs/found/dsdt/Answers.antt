@@ -8,4 +8,4 @@ use Rattle.acpi_layout.proofs.found.dsdt.Goals as goal
 pub returns-clause-err : goal.returns-clause-err
 returns-clause-err c =
     subst (λ a. OnErr c.named_table.result ((t : Located) → IsNamedTableAt (memory_of c.args.ranges.now) (codes "DSDT") a t → ⊥))
-    (c.dsdt_address-address.ensures ∙ ap dsdt_address c.contents.ensures.is) c.named_table.ensures.err
+    (c.dsdt_address-address.ensures ∙ ap (dsdt_address c.args.root) c.contents.ensures.is) c.named_table.ensures.err

@@ -1,7 +1,6 @@
-use Rattle.std.proofs.Common.{◌≡◌, ◌≤◌, ◌-◌, ◌+◌, ◌++◌, false, arith, rules}
-use Rattle.acpi_tree.proofs.Visits.{first_written, walk_on}
-use Rattle.acpi_tree.specs.Graph.{targets}
-use Rattle.acpi_tree.specs.Tree.{has_full, walk, visit}
+use Rattle.std.proofs.Common.{◌≡◌, ◌≤◌, false, arith, rules}
+use Rattle.acpi_tree.proofs.Visits.{first_written}
+use Rattle.acpi_tree.specs.Tree.{has_full}
 use Rattle.acpi_tree.proofs.tree.+visit.Goals as goal
 
 pub visit-returns : goal.visit-returns

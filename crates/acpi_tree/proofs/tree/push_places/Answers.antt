@@ -1,4 +1,4 @@
-use Rattle.std.proofs.Common.{◌≡◌, ◌+◌, ap, arith}
+use Rattle.std.proofs.Common.{◌+◌, ap}
 use Rattle.acpi_tree.proofs.Visits.{places_on}
 use Rattle.acpi_tree.proofs.tree.push_places.Goals as goal
 

@@ -1,10 +1,11 @@
-use Rattle.std.proofs.Common.{◌≡◌, ◌++◌, map, drop, take}
+use Rattle.std.proofs.Common.{◌≡◌, ◌++◌, map, drop}
 use Rattle.std.specs.List.{flat_map}
+use Rattle.acpi_forms.specs.Kind.{title_of}
 use Rattle.acpi_rules.specs.Finding.{noted}
 use Rattle.acpitool_program.specs.Checked.{object_line}
 use Rattle.acpitool_program.proofs.checked.objects_of.Given as goal
 
 abbrev pub invariant-findings : goal.invariant-findings
 invariant-findings l =
-    l.text.items ++ flat_map (object_line l.name (take 4 l.bytes)) (map noted (drop l.finding-index l.findings))
-    ≡ flat_map (object_line l.name (take 4 l.bytes)) (map noted l.findings)
+    l.text.items ++ flat_map (object_line l.name (title_of l.bytes)) (map noted (drop l.finding-index l.findings))
+    ≡ flat_map (object_line l.name (title_of l.bytes)) (map noted l.findings)

@@ -1,4 +1,4 @@
-use Rattle.std.proofs.Common.{[], ◌∷◌, ◌++◌, codes, drop}
+use Rattle.std.proofs.Common.{◌++◌, codes, drop}
 use Rattle.acpitool_program.proofs.Loadings.{none_put, one_put, last_put}
 use Rattle.acpitool_program.specs.Loading.{files_of}
 use Rattle.acpitool_program.proofs.loading.write_files.Goals as goal

@@ -18,4 +18,4 @@ tables-preserved g c =
     (ap (λ (b : List ℕ × List ℕ). map of (take at tables) ++ b ∷ []) (ap of c.table-item.is)
     ∙ sym (map_more of tables at c.table-item.result c.tables-test.true))
     c.worst_of-worst.ensures
-    (tables_then c.tables.invariant c.in_ok-status.ensures)
+    (tables_then c.tables.invariant (rw (c.deref.ensures.value, c.deref-in-tables.ensures.value) at c.in_ok-status.ensures))

@@ -1,0 +1,131 @@
+//! The numbers in a table that other tables of its machine define, such as proximity domains. A function whose name begins with
+//! `push` adds to a list or a text.
+
+ghost use Rattle.std.specs.Prelude.{◌≡◌, ◌++◌, map, IfOk, OnOk};
+ghost use Rattle.std.specs.List.{flat_map};
+ghost use Rattle.acpi_rules.specs.Across.{column_items};
+ghost use Rattle.acpi_rules.specs.Item.{item_by};
+ghost use Rattle.acpi_rules.specs.Link.{column_by, link_by};
+ghost use Rattle.acpi_rules.specs.Machine.{named};
+ghost use Rattle.acpi_tree.specs.Named.{link_items, named_in, is_inside, name_line, name_line_in, name_lines};
+
+use crate::graph::Node;
+use crate::tree::push_spaces;
+use acpi_json::number::push_decimal;
+use acpi_rules::across::column_items;
+use acpi_rules::item::Item;
+use acpi_rules::link::Link;
+use acpi_rules::machine::NAMED;
+use acpi_rules::rules::number_of;
+use std::alloc::{AllocError, Global};
+
+fn push_items<'a>(found: &[Item<'a>], items: &mut Vec<Item<'a>>) -> Result<(), AllocError>
+    ensures { OnOk result (map item_by items.new.items ≡ map item_by items.old.items ++ map item_by found.now) }
+{
+    'items: for item in found {
+        items.push(*item)?;
+    }
+    Ok(())
+}
+
+// Adds the numbers of a rule.
+fn push_link<'a>(
+    alloc: Global,
+    table: &'a [u8],
+    link: &Link,
+    items: &mut Vec<Item<'a>>,
+) -> Result<(), AllocError>
+    ensures { OnOk result (map item_by items.new.items
+        ≡ map item_by items.old.items ++ link_items table.now (link_by link.now)) }
+{
+    let found = column_items(alloc, &link.column, table)?;
+    push_items(&found, items)
+}
+
+fn push_links<'a>(
+    alloc: Global,
+    table: &'a [u8],
+    links: &[Link],
+    items: &mut Vec<Item<'a>>,
+) -> Result<(), AllocError>
+    ensures { OnOk result (map item_by items.new.items
+        ≡ map item_by items.old.items ++ flat_map (link_items table.now) (map link_by links.now)) }
+{
+    'links: for link in links {
+        push_link(alloc, table, link, items)?;
+    }
+    Ok(())
+}
+
+// Adds the numbers of a table.
+#[tactic(auto, unfolding(acpi_rules::specs::Machine::named))]
+fn push_named<'a>(
+    alloc: Global,
+    table: &'a [u8],
+    items: &mut Vec<Item<'a>>,
+) -> Result<(), AllocError>
+    ensures { OnOk result (map item_by items.new.items ≡ map item_by items.old.items ++ named_in table.now) }
+{
+    push_links(alloc, table, &NAMED, items)
+}
+
+/// Returns the fields of a table with numbers that another table defines, by the rules of `NAMED`, in their order.
+pub fn named_in<'a>(alloc: Global, table: &'a [u8]) -> Result<Vec<Item<'a>>, AllocError>
+    ensures { IfOk result (λ items. map item_by items.items ≡ named_in table.now) }
+{
+    let mut items = Vec::new(alloc);
+    push_named(alloc, table, &mut items)?;
+    Ok(items)
+}
+
+// Returns whether a field is in a structure.
+fn is_inside(node: &Node, item: &Item<'_>) -> bool
+    ensures { result ≡ is_inside node.now (item_by item.now) }
+{
+    if item.field.offset < node.at {
+        return false;
+    }
+    item.field.offset - node.at < node.size
+}
+
+// Adds the line of a number: the name of its field, and the number.
+fn push_name(depth: usize, item: &Item<'_>, text: &mut Vec<u8>) -> Result<(), AllocError>
+    ensures { OnOk result (text.new.items ≡ text.old.items ++ name_line depth (item_by item.now)) }
+{
+    push_spaces(depth, text)?;
+    text.extend_from_slice(b"  ")?;
+    text.extend_from_slice(item.field.name.as_bytes())?;
+    text.extend_from_slice(b" ")?;
+    push_decimal(number_of(&item.field), text)?;
+    text.extend_from_slice(b"\n")
+}
+
+// Adds it if it is in a structure.
+fn push_name_in(
+    depth: usize,
+    node: &Node,
+    item: &Item<'_>,
+    text: &mut Vec<u8>,
+) -> Result<(), AllocError>
+    ensures { OnOk result (text.new.items ≡ text.old.items ++ name_line_in depth node.now (item_by item.now)) }
+{
+    if is_inside(node, item) {
+        return push_name(depth, item, text);
+    }
+    Ok(())
+}
+
+/// Adds a line for each number in a structure that another table defines, two spaces further in than the structure.
+pub fn push_names(
+    depth: usize,
+    node: &Node,
+    items: &[Item<'_>],
+    text: &mut Vec<u8>,
+) -> Result<(), AllocError>
+    ensures { OnOk result (text.new.items ≡ text.old.items ++ name_lines depth node.now (map item_by items.now)) }
+{
+    'items: for item in items {
+        push_name_in(depth, node, item, text)?;
+    }
+    Ok(())
+}
