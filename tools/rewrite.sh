@@ -1,8 +1,8 @@
 #!/bin/sh
-# Has test_rewrite write definition blocks anew by the constructors of the library, and compare the bytes. With files or folders
-# as arguments, the blocks are the DSDTs and SSDTs among them. Without any they are those of crates/acpitool/data and those that
-# the example writes for both of its machines. The programs and what they stand on are proved first. Not a part of the gate. The
-# status is 1 if the bytes of a block differ, or if there is no block.
+# Has test_rewrite write definition blocks anew by the constructors of the library, and of their own ASL, and compare the bytes. With
+# files or folders as arguments, the blocks are the DSDTs and SSDTs among them. Without any they are those of crates/acpitool/data
+# and those that the example writes for both of its machines. The programs and what they stand on are proved first. Not a part of
+# the gate. The status is 1 if the bytes of a block differ, or if there is no block.
 set -eu
 
 fail() {
@@ -34,7 +34,7 @@ find "$@" -type f | sort >"$work/files"
 set --
 while read -r table; do
     case $(head -c 4 "$table" | tr -d '\0') in
-    DSDT | SSDT) set -- "$@" "$table" ;;
+    DSDT | SSDT) set -- "$@" "$table" asl "$table" ;;
     esac
 done <"$work/files"
 [ $# -gt 0 ] || fail "there is no definition block"

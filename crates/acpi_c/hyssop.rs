@@ -5,7 +5,7 @@
 use std::ffi::{c_char, c_int};
 
 /// `hyssop_version()` returns this, if the library fits these declarations.
-pub const VERSION: u32 = 8;
+pub const VERSION: u32 = 9;
 
 /// The type of a structure, if the structures of its table have none.
 pub const NO_KIND: usize = usize::MAX;
@@ -77,6 +77,7 @@ pub mod fault {
     pub const WANTS_TABLE: u32 = 86;
     pub const WANTS_FIELD_OF: u32 = 87;
     pub const WANTS_ANOTHER_NUMBER: u32 = 88;
+    pub const NOT_ASL: u32 = 89;
     pub const NAME_PART: u32 = 96;
     pub const PATH_PARTS: u32 = 97;
     pub const EISA_TEXT: u32 = 98;
@@ -221,6 +222,14 @@ unsafe extern "C" {
         out_size: usize,
         size: *mut usize,
         unread: *mut usize,
+        place: *mut u64,
+    ) -> u32;
+    pub fn hyssop_compile(
+        text: *const u8,
+        text_size: usize,
+        out: *mut u8,
+        out_size: usize,
+        size: *mut usize,
         place: *mut u64,
     ) -> u32;
     pub fn hyssop_check_image(

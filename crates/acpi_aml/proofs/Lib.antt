@@ -5,3 +5,4 @@ pub mod Fields
 pub mod Meanings
 pub mod Uuids
 pub mod Families
+pub mod NameTexts

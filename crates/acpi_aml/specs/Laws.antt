@@ -1,12 +1,12 @@
 -- Laws about the definitions, which hold for all calls.
-use Rattle.std.specs.Prelude.{◌≡◌, ℕ, ◌≤◌, ◌<◌, ◌^◌, List, [], ◌∷◌, ◌++◌, length, None, Bool, true}
+use Rattle.std.specs.Prelude.{◌≡◌, ◌≢◌, ℕ, ◌≤◌, ◌<◌, ◌^◌, List, [], ◌∷◌, ◌++◌, length, None, Bool, true, false}
 use Rattle.acpi_base.specs.Bytes.{AreBytes}
 use Rattle.acpi_base.specs.Number as numbers
 use Rattle.acpi_base.specs.Text as texts
 use Rattle.acpi_base.specs.Object.{Object, whole, all_of}
 use Rattle.acpi_term.specs.declared.mode.Mode.{Mode}
 use Rattle.acpi_term.specs.declared.mode.Mode.TheVariants.{Term, Element, Count}
-use Rattle.acpi_term.specs.Name.{IsName, IsText}
+use Rattle.acpi_term.specs.Name.{IsName, IsNameString, IsText, begins_up}
 use Rattle.acpi_term.specs.PathText.{is_name_text, path_spelling, path_of}
 use Rattle.acpi_term.specs.Tree.{number, ones, string, arg, local, call, def_scope, def_device, def_method}
 use Rattle.acpi_term.specs.Tree.{def_power_res, def_op_region, def_name, def_mutex, def_acquire, def_release, def_buffer}
@@ -24,6 +24,7 @@ use Rattle.acpi_aml.specs.Region.{region_space}
 use Rattle.acpi_aml.specs.Field.{entries_of, field_head}
 use Rattle.acpi_aml.specs.Builder.{Builder, new_builder, with_elements, package_of}
 use Rattle.acpi_aml.specs.Meaning.{Means, written, RowMeans}
+use Rattle.acpi_aml.specs.NameText.{is_standard_text, name_of}
 
 -- ---- one object, two ways to make it
 
@@ -127,6 +128,15 @@ abbrev pub PathsMean : Type 0
 PathsMean =
     (arity : List ℕ → ℕ) (m : Mode) (text : List ℕ) → is_name_text text ≡ true → arguments arity m (path_spelling text) ≡ 0
     → Spells arity m (path_of text).front (one (call (path_spelling text)) 0 end)
+
+-- The name of a text of standard segments, or of none after a prefix, is a name of the standard.
+abbrev pub NameTextsMean : Type 0
+NameTextsMean =
+    (text : List ℕ) → is_standard_text text ≡ true → IsNameString (name_of text).front × ((name_of text).end ≡ None)
+
+-- A text that doesn't begin with `^`, and isn't `\` alone, has the same name as path.
+abbrev pub PathsAreNames : Type 0
+PathsAreNames = (text : List ℕ) → begins_up text ≡ false → text ≢ 0x5c ∷ [] → name_of text ≡ path_of text
 
 -- A builder is the package of the elements that its bytes spell, if their number is the count.
 abbrev pub BuildersMean : Type 0

@@ -1,4 +1,5 @@
 pub mod EndsWell
+pub mod NameText
 pub mod Region
 pub mod Field
 pub mod Builder

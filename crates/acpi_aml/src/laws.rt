@@ -3,6 +3,7 @@
 ghost use Rattle.acpi_aml.specs.Laws.{BuildersMakePackages, RawIsScope, NamesOfObjectsMean, RegionsMean};
 ghost use Rattle.acpi_aml.specs.Laws.{FieldsMean, AllStatementsMean, CallsMean, TemplatesMean, NumbersMean};
 ghost use Rattle.acpi_aml.specs.Laws.{ConstantsMean, TextsMean, NamesMean, PathsMean, BuildersMean};
+ghost use Rattle.acpi_aml.specs.Laws.{NameTextsMean, PathsAreNames};
 ghost use Rattle.acpi_aml.specs.Laws.{VarPackagesMean, BuffersMean, BufferTermsMean, UuidMeans, EisaNameMeans};
 
 pub use crate::derived::equal_values_are_the_same;
@@ -86,6 +87,16 @@ pub fn names_mean()
 /// The path of a text of standard segments spells a call without arguments.
 pub fn paths_mean()
     ensures { PathsMean }
+{}
+
+/// The name of a text of standard segments, or of none after `\` or `^`, is a name of the standard.
+pub fn name_texts_mean()
+    ensures { NameTextsMean }
+{}
+
+/// A text that doesn't begin with `^`, and isn't `\` alone, has the same name as path.
+pub fn paths_are_names()
+    ensures { PathsAreNames }
 {}
 
 /// A builder spells the package of the terms that its bytes spell.

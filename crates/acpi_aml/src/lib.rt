@@ -12,6 +12,7 @@ pub mod laws;
 pub mod method;
 pub mod mutex;
 pub mod name;
+pub mod name_text;
 pub mod package;
 pub mod path;
 pub mod region;

@@ -58,11 +58,19 @@ header_text offset n header = string_text (until_zero (take n (drop offset heade
 
 -- The arguments of the definition block with this header (ACPI 6.5, 5.2.6 and 19.6.29): the file, which the compiler names, the
 -- signature, the revision, the OEM, its name of the table, and its revision of the table.
-abbrev pub block_line : List ℕ → List ℕ
-block_line header =
+abbrev pub definition : List ℕ → List ℕ
+definition header =
     codes "DefinitionBlock (\"\"" ++ further (header_text 0 4 header) ++ further (decimal (slice_index header 8))
     ++ (further (header_text 10 6 header) ++ further (header_text 16 8 header) ++ further (hex 4 (field_at 24 4 header)))
     ++ codes ")"
+
+-- The program that made the table, and its revision (ACPI 6.5, 5.2.6). ASL has no word for them, so they are a comment.
+abbrev pub creator : List ℕ → List ℕ
+creator header =
+    codes "/*= Creator " ++ header_text 28 4 header ++ further (hex 4 (field_at 32 4 header)) ++ codes " */\n"
+
+abbrev pub block_line : List ℕ → List ℕ
+block_line header = creator header ++ definition header
 
 -- the definition block of a header and terms
 abbrev pub asl_text : List ℕ → Terms → List ℕ

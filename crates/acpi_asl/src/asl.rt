@@ -4,7 +4,8 @@ ghost use Rattle.std.specs.Prelude.{◌≡◌, ◌++◌, codes, ◌+◌, ◌≤�
 ghost use Rattle.std.specs.Fmt.{decimal};
 ghost use Rattle.acpi_base.specs.Bytes.{field_at};
 ghost use Rattle.acpi_term.specs.View.{head_of, view, views, single};
-ghost use Rattle.acpi_asl.specs.Asl.{whole, texts, AreWritten, zero_at, until_zero, header_text, block_line, asl_text};
+ghost use Rattle.acpi_asl.specs.Asl.{whole, texts, AreWritten, zero_at, until_zero, header_text, creator, definition};
+ghost use Rattle.acpi_asl.specs.Asl.{block_line, asl_text};
 ghost use Rattle.acpi_asl.specs.Number.{hex};
 ghost use Rattle.acpi_asl.specs.Opening.{further};
 ghost use Rattle.acpi_asl.specs.Row.{rows};
@@ -120,6 +121,18 @@ fn until_zero(bytes: &[u8]) -> &[u8]
 }
 
 #[tactic(auto, unfolding(crate::specs::Asl::header_text))]
+fn push_string_at(
+    header: &[u8],
+    offset: usize,
+    count: usize,
+    text: &mut String,
+) -> Result<(), AllocError>
+    requires { offset + count ≤ length header.now }
+    ensures { OnOk result (string_bytes text.new ≡ string_bytes text.old ++ header_text offset count header.now) }
+{
+    push_string(until_zero(&header[offset..offset + count]), text)
+}
+
 fn push_header_text(
     header: &[u8],
     offset: usize,
@@ -130,7 +143,19 @@ fn push_header_text(
     ensures { OnOk result (string_bytes text.new ≡ string_bytes text.old ++ further (header_text offset count header.now)) }
 {
     text.push_str(", ")?;
-    push_string(until_zero(&header[offset..offset + count]), text)
+    push_string_at(header, offset, count, text)
+}
+
+// Adds the program that made the table, and its revision.
+#[tactic(auto, using(acpi_read::proofs::Texts::after_four))]
+fn push_creator(header: &[u8], text: &mut String) -> Result<(), AllocError>
+    requires { 36 ≤ length header.now }
+    ensures { OnOk result (string_bytes text.new ≡ string_bytes text.old ++ creator header.now) }
+{
+    text.push_str("/*= Creator ")?;
+    push_string_at(header, 28, 4, text)?;
+    push_further_hex(4, u64::from(dword_at(header, 32)), text)?;
+    text.push_str(" */\n")
 }
 
 // Adds the OEM's name, its name of the table, and its revision of the table.
@@ -146,9 +171,9 @@ fn push_oem(header: &[u8], text: &mut String) -> Result<(), AllocError>
     push_further_hex(4, u64::from(dword_at(header, 24)), text)
 }
 
-fn push_block_line(header: &[u8], text: &mut String) -> Result<(), AllocError>
+fn push_definition(header: &[u8], text: &mut String) -> Result<(), AllocError>
     requires { 36 ≤ length header.now }
-    ensures { OnOk result (string_bytes text.new ≡ string_bytes text.old ++ block_line header.now) }
+    ensures { OnOk result (string_bytes text.new ≡ string_bytes text.old ++ definition header.now) }
 {
     text.push_str("DefinitionBlock (\"\"")?;
     push_header_text(header, 0, 4, text)?;
@@ -156,6 +181,14 @@ fn push_block_line(header: &[u8], text: &mut String) -> Result<(), AllocError>
     push_oem(header, text)?;
     text.push_str(")")?;
     Ok(())
+}
+
+fn push_block_line(header: &[u8], text: &mut String) -> Result<(), AllocError>
+    requires { 36 ≤ length header.now }
+    ensures { OnOk result (string_bytes text.new ≡ string_bytes text.old ++ block_line header.now) }
+{
+    push_creator(header, text)?;
+    push_definition(header, text)
 }
 
 /// The definition block of a table as ASL, by its header, of which 36 bytes are read, and its terms.

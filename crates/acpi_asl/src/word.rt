@@ -84,7 +84,7 @@ pub fn operator_word(op: Op) -> &'static str
 }
 
 /// The kinds of words that stand for numbers (ACPI 6.5, 19.2.7).
-#[derive(Clone, Copy)]
+#[derive(Clone, Copy, Debug)]
 pub enum Keyword {
     AccessType,
     AccessAttribute,
@@ -188,7 +188,8 @@ pub fn word_in(rows: &[(u8, &'static str)], number: u8) -> &'static str
     ""
 }
 
-fn rows_of(keyword: Keyword) -> &'static [(u8, &'static str)]
+/// Returns the words of a kind, each with its number.
+pub fn rows_of(keyword: Keyword) -> &'static [(u8, &'static str)]
     ensures { map (λ row. (row.0, row.1.now)) result.now ≡ words_of keyword }
 {
     match keyword {

@@ -1,17 +1,19 @@
 -- What is added to an open object, and what it is once it is closed.
-use Rattle.std.proofs.Common.{◌≡◌, ℕ, ◌+◌, ◌≤◌, List, [], ◌∷◌, ◌++◌, length, take, drop, Bool, false, Some, None, refl, sym, ap, ◌∙◌, arith, append_assoc, take_at, drop_at}
+use Rattle.std.proofs.Common.{◌≡◌, ℕ, ◌+◌, ◌≤◌, List, [], ◌∷◌, ◌++◌, length, take, drop, Bool, true, false, eqb, Some, None, refl, sym, ap, ◌∙◌, arith, append_assoc, take_at, drop_at}
 use Rattle.std.specs.Prelude.{Option}
 use Rattle.std.proofs.lemmas.List.{append-nil}
+use Rattle.std.proofs.lemmas.Bool.{eqb-true, eqb-false}
 use Rattle.std.proofs.lemmas.Bool.Decides.{nat_tests}
 use Rattle.acpi_base.specs.declared.error.Error.{Error}
 use Rattle.acpi_base.specs.Number.{number}
 use Rattle.acpi_base.specs.Object.{Object, whole, ended, joined_by, all_of}
-use Rattle.acpi_term.specs.Tree.{Head, def_name, def_package}
+use Rattle.acpi_term.specs.Tree.{Head, def_name, def_package, def_roomy_package}
 use Rattle.acpi_term.specs.Length.{least_width, with_length}
 use Rattle.acpi_term.specs.Template.{template, template_bytes, buffer_of_bytes}
 use Rattle.acpi_term.specs.Row.{Layout, own, own_width, layout, framed, frame_end, frame, around, row}
+use Rattle.acpi_ops.specs.Package.{roomy_package}
 use Rattle.acpi_build.specs.declared.level.Content.{Content}
-use Rattle.acpi_build.specs.declared.level.Content.TheVariants.{Objects, Elements, Descriptors}
+use Rattle.acpi_build.specs.declared.level.Content.TheVariants.{Objects, Elements, Room, Descriptors}
 use Rattle.acpi_build.specs.declared.level.Level.{Level}
 use Rattle.acpi_build.specs.Block.{Writing, Block, empty, is_full, counted, with_count, unless, element_of, with_object, opened, within, closed}
 use Rattle.acpi_build.specs.Laws.{after, with_objects, bytes_or, finished_after}
@@ -170,6 +172,48 @@ pub named_packages_are_rows : (path : List ℕ) (os : List Object) (w : Writing)
 named_packages_are_rows path os w few free =
     packed (0x08 ∷ path ++ 0x12 ∷ []) os w few free
     ∙ ap (λ (p : Object). with_object p w) (named_frame path (0x12 ∷ []) (length os ∷ (all_of os).front) (all_of os).end ∙ ap (λ (p : Object). row (def_name path) (p ∷ [])) (package_is os few))
+
+-- ---- packages with room
+
+room_for : (os : List Object) (n room : ℕ) → n + length os ≤ room → HasRoom os (Room n room)
+room_for [] n room few = tt
+room_for (o ∷ os) n room few = (grind (arith, nat_tests), room_for os (n + 1) room (omega arith))
+
+room_grown : (os : List Object) (n room : ℕ) → grown os (Room n room) ≡ Room (n + length os) room
+room_grown [] n room = ap (λ k. Room k room) (omega arith)
+room_grown (o ∷ os) n room = room_grown os (n + 1) room ∙ ap (λ k. Room k room) (omega arith)
+
+roomy_from : (t : Bool) (room : ℕ) (os : List Object) → eqb (length os) room ≡ t → length os ≤ room → room ≤ 255
+    → ended (all_of os).end (frame (0x12 ∷ []) (room ∷ (all_of os).front)) ≡ roomy_package room os
+roomy_from true room os h fits few =
+    let same : length os ≡ room = eqb-true (length os) room h in
+    rw h (ap (λ n. ended (all_of os).end (frame (0x12 ∷ []) (n ∷ (all_of os).front))) (sym same) ∙ package_is os (omega (arith, same)))
+roomy_from false room os h fits few =
+    let owns : own (def_roomy_package room) (length os) ≡ None = let other = eqb-false (length os) room h in grind (arith, nat_tests) in
+    rw h (
+    ap (λ (l : List ℕ). ended (all_of os).end (frame (0x12 ∷ []) (room ∷ l))) (sym (append-nil (all_of os).front))
+    ∙ ap (λ (e : Option Error). ended e (around (layout (def_roomy_package room) 0 (length os)) (all_of os))) (sym owns)
+    )
+
+roomy_is : (room : ℕ) (os : List Object) → length os ≤ room → room ≤ 255 → ended (all_of os).end (frame (0x12 ∷ []) (room ∷ (all_of os).front)) ≡ roomy_package room os
+roomy_is room os = roomy_from (eqb (length os) room) room os refl
+
+-- a package with room behind any code
+packed_with_room : (code : List ℕ) (room : ℕ) (os : List Object) (w : Writing) → length os ≤ room → is_full w.level.content ≡ false
+    → after (with_objects os (opened (Room 0 room) code [] w)) closed ≡ with_object (ended (all_of os).end (frame code (room ∷ (all_of os).front))) w
+packed_with_room code room os w fits free =
+    closed_object code [] os w (Room 0 room) (room_for os 0 room (omega (arith, fits))) free
+    ∙ ap (λ (c : Content). with_object (ended (all_of os).end (frame code (within c (all_of os).front))) w) (room_grown os 0 room)
+
+pub roomy_packages_are_rows : (room : ℕ) (os : List Object) (w : Writing) → length os ≤ room → room ≤ 255 → is_full w.level.content ≡ false
+    → after (with_objects os (opened (Room 0 room) (0x12 ∷ []) [] w)) closed ≡ with_object (roomy_package room os) w
+roomy_packages_are_rows room os w fits few free = packed_with_room (0x12 ∷ []) room os w fits free ∙ ap (λ (p : Object). with_object p w) (roomy_is room os fits few)
+
+pub named_roomy_packages_are_rows : (path : List ℕ) (room : ℕ) (os : List Object) (w : Writing) → length os ≤ room → room ≤ 255 → is_full w.level.content ≡ false
+    → after (with_objects os (opened (Room 0 room) (0x08 ∷ path ++ 0x12 ∷ []) [] w)) closed ≡ with_object (row (def_name path) (roomy_package room os ∷ [])) w
+named_roomy_packages_are_rows path room os w fits few free =
+    packed_with_room (0x08 ∷ path ++ 0x12 ∷ []) room os w fits free
+    ∙ ap (λ (p : Object). with_object p w) (named_frame path (0x12 ∷ []) (room ∷ (all_of os).front) (all_of os).end ∙ ap (λ (p : Object). row (def_name path) (p ∷ [])) (roomy_is room os fits few))
 
 -- the buffer of these bytes is a frame of their number and the bytes
 buffer_is : (bytes : List ℕ) → frame (0x11 ∷ []) (number (length bytes) ++ bytes) ≡ buffer_of_bytes bytes

@@ -4,27 +4,29 @@ use Rattle.std.specs.Prelude.{List, [], ◌∷◌, ◌++◌, length, take, drop,
 use Rattle.std.specs.Prelude.{Vec}
 use Rattle.std.specs.declared.alloc.Global.{Global}
 use Rattle.acpi_base.specs.declared.error.Error.{Error}
-use Rattle.acpi_base.specs.declared.error.Error.TheVariants.{Memory, MethodArgs, PackageElements}
+use Rattle.acpi_base.specs.declared.error.Error.TheVariants.{FieldWidth, Memory, MethodArgs, PackageElements}
 use Rattle.acpi_base.specs.Bytes.{le}
 use Rattle.acpi_base.specs.Number.{number}
 use Rattle.acpi_base.specs.Object.{Object, ended}
 use Rattle.acpi_term.specs.Tree.{def_name, def_external, def_op_region, def_mutex, def_acquire, def_release, call, op}
 use Rattle.acpi_term.specs.declared.op.Op.{Op}
 use Rattle.acpi_term.specs.Operator.{operands}
-use Rattle.acpi_term.specs.PathText.{parts, unrooted, parts_end, path_spelling}
 use Rattle.acpi_term.specs.Template.{template_bytes}
-use Rattle.acpi_term.specs.Row.{frame, method_flags, row}
+use Rattle.acpi_term.specs.Row.{frame, method_flags, leveled_flags, row}
 use Rattle.acpi_aml.specs.Field.{field_head}
+use Rattle.acpi_aml.specs.NameText.{name_of}
 use Rattle.acpi_aml.specs.Region.{region_space}
 use Rattle.acpi_aml.specs.declared.field.FieldAccessType.{FieldAccessType}
 use Rattle.acpi_aml.specs.declared.field.FieldLockRule.{FieldLockRule}
 use Rattle.acpi_aml.specs.declared.field.FieldUpdateRule.{FieldUpdateRule}
 use Rattle.acpi_aml.specs.declared.field.FieldEntry.{FieldEntry}
 use Rattle.acpi_aml.specs.declared.region.OpRegionSpace.{OpRegionSpace}
+use Rattle.acpi_ops.specs.declared.element.FieldElement.{FieldElement}
+use Rattle.acpi_ops.specs.Element.{field_list_head}
 use Rattle.acpi_build.specs.declared.error.BuildError.{BuildError}
 use Rattle.acpi_build.specs.declared.error.BuildError.TheVariants as errors
 use Rattle.acpi_build.specs.declared.level.Content.{Content}
-use Rattle.acpi_build.specs.declared.level.Content.TheVariants.{Objects, Elements, Descriptors}
+use Rattle.acpi_build.specs.declared.level.Content.TheVariants.{Objects, Elements, Room, Descriptors}
 use Rattle.acpi_build.specs.declared.level.Level.{Level}
 
 -- Terms that are being written: the bytes so far, the innermost open object, and those around it, from the inside out. The last
@@ -43,15 +45,17 @@ empty = record { bytes = []; level = record { start = 0; content = Objects }; ou
 
 -- ---- one object more
 
--- a package that has 255 elements takes no more
+-- a package that has 255 elements takes no more, nor does one that has as many as it has room for
 abbrev pub is_full : Content → Bool
 is_full Objects = false
 is_full (Elements n) = n == 255
+is_full (Room n room) = nat_le room n
 is_full Descriptors = false
 
 abbrev pub counted : Content → Content
 counted Objects = Objects
 counted (Elements n) = Elements (n + 1)
+counted (Room n room) = Room (n + 1) room
 counted Descriptors = Descriptors
 
 abbrev pub with_count : Level → Level
@@ -82,10 +86,12 @@ opened content code before w = record {
   outer = w.level ∷ w.outer;
 }
 
--- all bytes of an object after its PkgLength: a package has its number of elements first, and a buffer its size
+-- all bytes of an object after its PkgLength: a package has its number of elements or its room first, and
+-- a buffer its size
 abbrev pub within : Content → List ℕ → List ℕ
 within Objects bytes = bytes
 within (Elements n) bytes = n ∷ bytes
+within (Room n room) bytes = room ∷ bytes
 within Descriptors bytes = number (length (template_bytes bytes)) ++ template_bytes bytes
 
 abbrev pub closed_into : List Level → Writing → Block
@@ -113,9 +119,9 @@ abbrev pub on_path : Option Error → Block → Block
 on_path None block = block
 on_path (Some e) block = Err (errors.Object e)
 
--- a step with the path of a text, or the error of the text
+-- a step with the name of a text, or the error of the text
 abbrev pub at_path : List ℕ → (List ℕ → Block) → Block
-at_path text step = on_path (parts_end (parts (unrooted text))) (step (path_spelling text))
+at_path text step = on_path (name_of text).end (step (name_of text).front)
 
 abbrev pub with_name : List ℕ → Object → Writing → Block
 with_name text object w = at_path text (λ path. with_object (row (def_name path) (object ∷ [])) w)
@@ -133,6 +139,10 @@ with_region text space offset size w =
 abbrev pub with_field : List ℕ → FieldAccessType → FieldLockRule → FieldUpdateRule → List FieldEntry → Writing → Block
 with_field text access lock update entries w =
     at_path text (λ path. with_object (row (field_head path access lock update entries) []) w)
+
+abbrev pub with_field_list : List ℕ → FieldAccessType → FieldLockRule → FieldUpdateRule → List FieldElement → Writing → Block
+with_field_list text access lock update elements w =
+    at_path text (λ path. with_object (row (field_list_head path access lock update elements) []) w)
 
 abbrev pub with_mutex : List ℕ → ℕ → Writing → Block
 with_mutex text level w = at_path text (λ path. with_object (row (def_mutex path level) []) w)
@@ -170,12 +180,28 @@ with_method text args serialized w = at_path text (λ path.
     if nat_le args 7 then Ok (opened Objects (0x14 ∷ []) (path ++ method_flags args serialized ∷ []) w)
     else Err (errors.Object MethodArgs))
 
+-- a method whose level fits four bits
+abbrev pub with_leveled_method : List ℕ → ℕ → Bool → ℕ → Writing → Block
+with_leveled_method text args serialized level w = at_path text (λ path.
+    if nat_le level 15
+    then (if nat_le args 7 then Ok (opened Objects (0x14 ∷ []) (path ++ leveled_flags args serialized level ∷ []) w)
+    else Err (errors.Object MethodArgs))
+    else Err (errors.Object FieldWidth))
+
 abbrev pub with_package : Writing → Writing
 with_package w = opened (Elements 0) (0x12 ∷ []) [] w
+
+-- a package with room for so many elements
+abbrev pub with_roomy_package : ℕ → Writing → Writing
+with_roomy_package room w = opened (Room 0 room) (0x12 ∷ []) [] w
 
 -- the package that has a name
 abbrev pub with_named_package : List ℕ → Writing → Block
 with_named_package text w = at_path text (λ path. Ok (opened (Elements 0) (0x08 ∷ path ++ 0x12 ∷ []) [] w))
+
+-- the same with room
+abbrev pub with_named_roomy_package : List ℕ → ℕ → Writing → Block
+with_named_roomy_package text room w = at_path text (λ path. Ok (opened (Room 0 room) (0x08 ∷ path ++ 0x12 ∷ []) [] w))
 
 -- the buffer of resource descriptors that has a name
 abbrev pub with_resources : List ℕ → Writing → Block

@@ -5,9 +5,10 @@ use Rattle.acpi_base.specs.Object.{Object, all_of}
 use Rattle.acpi_term.specs.Tree.{Head, def_name, def_package}
 use Rattle.acpi_term.specs.Template.{template}
 use Rattle.acpi_term.specs.Row.{own, own_width, layout, framed, row}
+use Rattle.acpi_ops.specs.Package.{roomy_package}
 use Rattle.acpi_build.specs.declared.error.BuildError.{BuildError}
 use Rattle.acpi_build.specs.declared.error.BuildError.TheVariants as errors
-use Rattle.acpi_build.specs.declared.level.Content.TheVariants.{Objects, Elements, Descriptors}
+use Rattle.acpi_build.specs.declared.level.Content.TheVariants.{Objects, Elements, Room, Descriptors}
 use Rattle.acpi_build.specs.Block.{Writing, Block, empty, is_full, with_object, opened, closed, finished}
 
 -- a step after another, unless that has an error
@@ -19,7 +20,8 @@ abbrev pub with_objects : List Object → Writing → Block
 with_objects [] w = Ok w
 with_objects (object ∷ objects) w = after (with_object object w) (with_objects objects)
 
--- An object with a PkgLength is the row of its head: a scope, a device, a method, a power resource, an If, an Else or a While.
+-- An object with a PkgLength is the row of its head: a scope, a device, a method, also one with a
+-- level, a power resource, an If, an Else or a While.
 abbrev pub ObjectsAreRows : Type 0
 ObjectsAreRows =
     (h : Head) (code before : List ℕ) (objects : List Object) (w : Writing)
@@ -39,6 +41,20 @@ NamedPackagesAreRows =
     (path : List ℕ) (objects : List Object) (w : Writing) → length objects ≤ 255 → is_full w.level.content ≡ false
     → after (with_objects objects (opened (Elements 0) (0x08 ∷ path ++ 0x12 ∷ []) [] w)) closed
     ≡ with_object (row (def_name path) (row def_package objects ∷ [])) w
+
+-- A package with room for its elements.
+abbrev pub RoomyPackagesAreRows : Type 0
+RoomyPackagesAreRows =
+    (room : ℕ) (objects : List Object) (w : Writing) → length objects ≤ room → room ≤ 255 → is_full w.level.content ≡ false
+    → after (with_objects objects (opened (Room 0 room) (0x12 ∷ []) [] w)) closed ≡ with_object (roomy_package room objects) w
+
+-- The same with a name.
+abbrev pub NamedRoomyPackagesAreRows : Type 0
+NamedRoomyPackagesAreRows =
+    (path : List ℕ) (room : ℕ) (objects : List Object) (w : Writing) → length objects ≤ room → room ≤ 255
+    → is_full w.level.content ≡ false
+    → after (with_objects objects (opened (Room 0 room) (0x08 ∷ path ++ 0x12 ∷ []) [] w)) closed
+    ≡ with_object (row (def_name path) (roomy_package room objects ∷ [])) w
 
 -- Resource descriptors with a name are a resource template with this name.
 abbrev pub ResourcesAreTemplates : Type 0

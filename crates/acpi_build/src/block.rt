@@ -9,6 +9,7 @@ ghost use Rattle.acpi_build.specs.Block.{with_external, with_operator, with_powe
 ghost use Rattle.acpi_build.specs.Block.{with_package, with_named_package, with_resources, with_if, with_while, with_else};
 ghost use Rattle.acpi_build.specs.Block.{closed, finished_block, kept, out_of_memory, seen};
 ghost use Rattle.acpi_build.specs.Block.{with_region, with_field, with_mutex, with_acquire, with_release};
+ghost use Rattle.acpi_build.specs.Block.{with_field_list, with_leveled_method, with_roomy_package, with_named_roomy_package};
 ghost use Rattle.acpi_build.specs.State.{Does};
 
 use crate::error::BuildError;
@@ -17,13 +18,14 @@ use crate::writer::Writer;
 use acpi_aml::field::{FieldAccessType, FieldEntry, FieldLockRule, FieldUpdateRule};
 use acpi_aml::region::OpRegionSpace;
 use acpi_base::object::Aml;
+use acpi_ops::element::FieldElement;
 use acpi_term::op::Op;
 use std::alloc::Global;
 use std::marker::Model;
 
 /// Terms that are written call by call (ACPI 6.5, 20.2.5). A call that begins an object is followed by calls for what is in it,
 /// and then by `end`. No call returns an error: the block keeps the first one, the calls after it do nothing, and `finish`
-/// returns it.
+/// returns it. The path of an object is the text of any name of the standard, as `Path::name_string` takes it.
 #[derive(Drop)]
 pub struct Block {
     writer: Writer,
@@ -59,7 +61,7 @@ impl Block {
     }
 
     /// Adds any object. Its error is the object's, or `PackageElements` if the innermost open object is a package that has 255
-    /// elements already.
+    /// elements already, or as many as it has room for.
     pub fn add(&mut self, aml: &dyn Aml)
         ensures { Does out_of_memory (with_object (object aml.now)) self.old self.new }
     {
@@ -127,6 +129,24 @@ impl Block {
     {
         if self.error.is_none() {
             let outcome = self.writer.field(path, access, lock, update, entries);
+            self.keep(outcome);
+        }
+    }
+
+    /// Adds names for bits of a region, with any elements: also how the bits are accessed, and connections (ACPI 6.5, 20.2.5.2,
+    /// DefField). Its errors are those of `field`.
+    pub fn field_list(
+        &mut self,
+        path: &str,
+        access: FieldAccessType,
+        lock: FieldLockRule,
+        update: FieldUpdateRule,
+        elements: Vec<FieldElement>,
+    )
+        ensures { Does out_of_memory (with_field_list path.now access lock update elements.items) self.old self.new }
+    {
+        if self.error.is_none() {
+            let outcome = self.writer.field_list(path, access, lock, update, elements);
             self.keep(outcome);
         }
     }
@@ -246,8 +266,21 @@ impl Block {
         }
     }
 
-    /// Begins a package without a name (ACPI 6.5, 20.2.5.4, DefPackage). Each object that is added is an element, and their number
-    /// is written at the end. There are at most 255.
+    /// Begins a method with a synchronization level from 0 to 15 (ACPI 6.5, 20.2.5.2, DefMethod: MethodFlags). Its errors are
+    /// those of `scope`, then `FieldWidth` past level 15, and then `MethodArgs` past 7 arguments.
+    pub fn leveled_method(&mut self, path: &str, args: u8, serialized: bool, level: u8)
+        ensures { Does out_of_memory (with_leveled_method path.now args serialized level) self.old self.new }
+    {
+        if self.error.is_none() {
+            let outcome = self
+                .writer
+                .open_leveled_method(path, args, serialized, level);
+            self.keep(outcome);
+        }
+    }
+
+    /// Begins a package without a name (ACPI 6.5, 20.2.5.4, DefPackage). Each object that is added is an element, and their
+    /// number is written at the end. There are at most 255.
     pub fn package(&mut self)
         ensures { Does out_of_memory (λ w. Ok (with_package w)) self.old self.new }
     {
@@ -263,6 +296,27 @@ impl Block {
     {
         if self.error.is_none() {
             let outcome = self.writer.open_named(Content::Elements(0), path, 0x12);
+            self.keep(outcome);
+        }
+    }
+
+    /// Begins a package with room for so many elements (ACPI 6.5, 20.2.5.4, DefPackage: NumElements). Each object that is added
+    /// is an element. There are at most as many as there is room for.
+    pub fn package_with_room(&mut self, room: u8)
+        ensures { Does out_of_memory (λ w. Ok (with_roomy_package room w)) self.old self.new }
+    {
+        if self.error.is_none() {
+            let outcome = self.writer.open(Content::Room(0, room), &[0x12], &[]);
+            self.keep(outcome);
+        }
+    }
+
+    /// Begins a package with room that has a name. Its errors are those of `scope`.
+    pub fn named_package_with_room(&mut self, path: &str, room: u8)
+        ensures { Does out_of_memory (with_named_roomy_package path.now room) self.old self.new }
+    {
+        if self.error.is_none() {
+            let outcome = self.writer.open_named(Content::Room(0, room), path, 0x12);
             self.keep(outcome);
         }
     }
@@ -310,7 +364,7 @@ impl Block {
     }
 
     /// Ends the object that was begun last. The error is `NoneOpen` if there is none, `PkgLength` from 2^28 bytes on, or
-    /// `PackageElements` if it is the 256th element of a package.
+    /// `PackageElements` if it is the 256th element of a package, or one for which the package has no room.
     pub fn end(&mut self)
         ensures { Does out_of_memory closed self.old self.new }
     {

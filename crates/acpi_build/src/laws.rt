@@ -1,7 +1,7 @@
 //! Laws about the definitions that the contracts use. Each function is a law: it does nothing, and its `ensures` states the law.
 
 ghost use Rattle.acpi_build.specs.Laws.{ObjectsAreRows, PackagesAreRows, NamedPackagesAreRows, ResourcesAreTemplates};
-ghost use Rattle.acpi_build.specs.Laws.{BlocksAreObjects};
+ghost use Rattle.acpi_build.specs.Laws.{RoomyPackagesAreRows, NamedRoomyPackagesAreRows, BlocksAreObjects};
 
 /// A scope, a device, a method, a power resource, an `If`, an `Else` or a `While` that is begun, filled and ended is the object
 /// of the constructor with the same children.
@@ -17,6 +17,16 @@ pub fn packages_are_rows()
 /// A package with a name is the name of this package.
 pub fn named_packages_are_rows()
     ensures { NamedPackagesAreRows }
+{}
+
+/// A package with room that is begun, filled and ended is the package of its elements with this room.
+pub fn roomy_packages_are_rows()
+    ensures { RoomyPackagesAreRows }
+{}
+
+/// A package with room and a name is the name of this package.
+pub fn named_roomy_packages_are_rows()
+    ensures { NamedRoomyPackagesAreRows }
 {}
 
 /// Resource descriptors with a name are the name of their template.

@@ -13,6 +13,8 @@ pub enum Content {
     Objects,
     /// The elements of a package: their number so far.
     Elements(u8),
+    /// The elements of a package with room: their number so far, and the room.
+    Room(u8, u8),
     /// Resource descriptors.
     Descriptors,
 }
@@ -27,7 +29,8 @@ pub struct Level {
 }
 
 impl Level {
-    /// The level after one more object. The error is `PackageElements` at the 256th element of a package.
+    /// The level after one more object. The error is `PackageElements` at the 256th element of a package, or at one
+    /// for which it has no room.
     pub(crate) fn counted(self) -> R<Level>
         ensures ok { IfOk result (λ level. level ≡ with_count self) }
         ensures room { OnOk result (is_full self.content ≡ false) }
@@ -36,6 +39,8 @@ impl Level {
         let content = match self.content {
             Content::Elements(255) => return Err(Error::PackageElements),
             Content::Elements(count) => Content::Elements(count + 1),
+            Content::Room(count, room) if room <= count => return Err(Error::PackageElements),
+            Content::Room(count, room) => Content::Room(count + 1, room),
             content => content,
         };
         Ok(Level {

@@ -6,18 +6,20 @@ ghost use Rattle.acpi_term.specs.Row.{frame};
 ghost use Rattle.acpi_build.specs.Block.{empty, within, with_object, with_name, with_call, with_method, opened, closed};
 ghost use Rattle.acpi_build.specs.Block.{with_power_resource, with_region, with_field, with_mutex, with_acquire, with_release};
 ghost use Rattle.acpi_build.specs.Block.{with_external, with_operator, with_processor, at_path, finished, seen, IsStep};
+ghost use Rattle.acpi_build.specs.Block.{with_leveled_method, with_field_list};
 ghost use Rattle.acpi_build.specs.declared.level.Content.TheVariants as Content;
 
 use crate::error::BuildError;
 use crate::level::{Content, Level};
 use acpi_aml::field::{Field, FieldAccessType, FieldEntry, FieldLockRule, FieldUpdateRule};
+use acpi_aml::name_text::name_bytes;
 use acpi_aml::path::Path;
 use acpi_aml::region::OpRegionSpace;
 use acpi_base::buffer::{append, append_all, append_value};
 use acpi_base::error::{Error, R};
 use acpi_base::object::Aml;
+use acpi_ops::element::{FieldElement, FieldList};
 use acpi_term::op::Op;
-use acpi_term::path_text::path_bytes;
 use acpi_term::row::{frame_length, insert};
 use std::alloc::Global;
 use std::marker::Model;
@@ -85,6 +87,7 @@ fn put_end(bytes: &mut Vec<u8>, level: Level) -> R<()>
     match level.content {
         Content::Objects => put_length(bytes, start, &[]),
         Content::Elements(count) => put_length(bytes, start, &[count]),
+        Content::Room(_, room) => put_length(bytes, start, &[room]),
         Content::Descriptors => put_size(bytes, start),
     }
 }
@@ -122,7 +125,7 @@ impl Writer {
     pub(crate) fn name(&mut self, path: &str, value: &dyn Aml) -> Result<(), BuildError>
         ensures { IsStep (with_name path.now (object value.now) self.old) self.new result }
     {
-        let path = path_bytes(self.allocator(), path)?;
+        let path = name_bytes(self.allocator(), path)?;
         self.level = self.level.counted()?;
         self.bytes.push(0x08)?;
         self.bytes.extend_from_slice(&path)?;
@@ -160,7 +163,7 @@ impl Writer {
         ensures { IsStep (at_path path.now (λ name. Ok (opened Content.Objects code.now (name ++ after.now) self.old))) self.new
             result }
     {
-        let mut before = path_bytes(self.allocator(), path)?;
+        let mut before = name_bytes(self.allocator(), path)?;
         before.extend_from_slice(after)?;
         self.open(Content::Objects, code, &before)
     }
@@ -201,11 +204,32 @@ impl Writer {
     ) -> Result<(), BuildError>
         ensures { IsStep (with_method path.now args serialized self.old) self.new result }
     {
-        let mut before = path_bytes(self.allocator(), path)?;
+        let mut before = name_bytes(self.allocator(), path)?;
         if args > 7 {
             return Err(BuildError::Object(Error::MethodArgs));
         }
         before.push(if serialized { args + 8 } else { args })?;
+        self.open(Content::Objects, &[0x14], &before)
+    }
+
+    /// Begins a method with a synchronization level.
+    pub(crate) fn open_leveled_method(
+        &mut self,
+        path: &str,
+        args: u8,
+        serialized: bool,
+        level: u8,
+    ) -> Result<(), BuildError>
+        ensures { IsStep (with_leveled_method path.now args serialized level self.old) self.new result }
+    {
+        let mut before = name_bytes(self.allocator(), path)?;
+        if level > 15 {
+            return Err(BuildError::Object(Error::FieldWidth));
+        }
+        if args > 7 {
+            return Err(BuildError::Object(Error::MethodArgs));
+        }
+        before.push(if serialized { args + 8 } else { args } + 16 * level)?;
         self.open(Content::Objects, &[0x14], &before)
     }
 
@@ -218,7 +242,7 @@ impl Writer {
     ) -> Result<(), BuildError>
         ensures { IsStep (at_path path.now (λ name. Ok (opened content (0x08 ∷ name ++ code ∷ []) [] self.old))) self.new result }
     {
-        let mut front = path_bytes(self.allocator(), path)?;
+        let mut front = name_bytes(self.allocator(), path)?;
         front.insert(0, 0x08)?;
         front.push(code)?;
         self.open(content, &front, &[])
@@ -249,7 +273,7 @@ impl Writer {
     ) -> Result<(), BuildError>
         ensures { IsStep (with_region path.now space (object offset.now) (object length.now) self.old) self.new result }
     {
-        let name = path_bytes(self.allocator(), path)?;
+        let name = name_bytes(self.allocator(), path)?;
         self.level = self.level.counted()?;
         self.bytes.extend_from_slice(&[0x5b, 0x80])?;
         self.bytes.extend_from_slice(&name)?;
@@ -269,10 +293,28 @@ impl Writer {
     ) -> Result<(), BuildError>
         ensures { IsStep (with_field path.now access lock update entries.now self.old) self.new result }
     {
-        let path = Path::new(self.allocator(), path)?;
+        let path = Path::name_string(self.allocator(), path)?;
         self.level = self.level.counted()?;
         let entries = Vec::from_slice(self.allocator(), entries)?;
         let field = Field::new(path, access, lock, update, entries)?;
+        append_value(&field, &mut self.bytes)?;
+        Ok(())
+    }
+
+    /// Adds the fields of an operation region, with any elements.
+    pub(crate) fn field_list(
+        &mut self,
+        path: &str,
+        access: FieldAccessType,
+        lock: FieldLockRule,
+        update: FieldUpdateRule,
+        elements: Vec<FieldElement>,
+    ) -> Result<(), BuildError>
+        ensures { IsStep (with_field_list path.now access lock update elements.items self.old) self.new result }
+    {
+        let path = Path::name_string(self.allocator(), path)?;
+        self.level = self.level.counted()?;
+        let field = FieldList::new(&path, access, lock, update, elements)?;
         append_value(&field, &mut self.bytes)?;
         Ok(())
     }
@@ -282,7 +324,7 @@ impl Writer {
         ensures { IsStep (at_path path.now
             (λ name. with_object (whole (code.now ++ (name ++ after.now))) self.old)) self.new result }
     {
-        let name = path_bytes(self.allocator(), path)?;
+        let name = name_bytes(self.allocator(), path)?;
         self.level = self.level.counted()?;
         self.bytes.extend_from_slice(code)?;
         self.bytes.extend_from_slice(&name)?;
@@ -328,7 +370,7 @@ impl Writer {
     pub(crate) fn call(&mut self, path: &str, args: &[&dyn Aml]) -> Result<(), BuildError>
         ensures { IsStep (with_call path.now (map (λ a. object a.now) args.now) self.old) self.new result }
     {
-        let name = path_bytes(self.allocator(), path)?;
+        let name = name_bytes(self.allocator(), path)?;
         self.level = self.level.counted()?;
         self.bytes.extend_from_slice(&name)?;
         append_all(args, &mut self.bytes)?;

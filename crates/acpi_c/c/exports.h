@@ -22,6 +22,7 @@ uint32_t hyssop_export_disassemble_among(const void *bytes, size_t bytes_size, c
 uint32_t hyssop_export_names_among(const void *bytes, size_t bytes_size, const void *further, size_t further_size,
                                    const void *arities, size_t arities_size, void *out, size_t out_size, size_t *size,
                                    size_t *unread, uint64_t *place);
+uint32_t hyssop_export_compile(const void *text, size_t text_size, void *out, size_t out_size, size_t *size, uint64_t *place);
 uint32_t hyssop_export_check_image(const void *bytes, size_t bytes_size, uint64_t base, uint64_t rsdp, uint64_t *place);
 uint32_t hyssop_export_image_tables(const void *bytes, size_t bytes_size, uint64_t base, uint64_t rsdp,
                                     struct hyssop_image_table *out, size_t out_size, size_t *size, uint64_t *place);

@@ -147,6 +147,15 @@ enum hyssop_fault hyssop_names_among(const void *bytes, size_t bytes_size, const
                                                         place_or(place, &unwanted));
 }
 
+enum hyssop_fault hyssop_compile(const char *text, size_t text_size, void *out, size_t out_size, size_t *size,
+                                 uint64_t *place) {
+    struct unwanted unwanted;
+    if (is_null(text, text_size) || is_null(out, out_size))
+        return null(size, place);
+    return (enum hyssop_fault)hyssop_export_compile(input(text), text_size, output(out), out_size, size_or(size, &unwanted),
+                                                    place_or(place, &unwanted));
+}
+
 enum hyssop_fault hyssop_check_image(const void *bytes, size_t bytes_size, uint64_t base, uint64_t rsdp, uint64_t *place) {
     struct unwanted unwanted;
     if (is_null(bytes, bytes_size))

@@ -8,8 +8,8 @@
    - Memory that is written overlaps no other argument. During the call no other thread uses it, and none writes to what is read.
    - malloc, realloc and free are those of one allocator, and align a block as C says. No call is made from a signal handler, or
      from the forked child of a process with threads.
-   - The stack has 512 KiB for hyssop_check_aml, 2 MiB for hyssop_disassemble, hyssop_names, hyssop_disassemble_among and
-     hyssop_names_among, and 128 KiB for every other function.
+   - The stack has 512 KiB for hyssop_check_aml, 2 MiB for hyssop_disassemble, hyssop_names, hyssop_disassemble_among,
+     hyssop_names_among and hyssop_compile, and 128 KiB for every other function.
 
    Nothing is kept between calls, and several threads may call at once. What is found is written to the front of `out`, and *size
    or *count is how much that is. Texts have no zero at their end. If it is more than fits, the result is HYSSOP_FAULT_BUFFER, and
@@ -33,7 +33,7 @@ extern "C" {
 #endif
 
 /* hyssop_version() returns this, if the library fits this header. It grows when a function or a fault changes. */
-#define HYSSOP_VERSION 8
+#define HYSSOP_VERSION 9
 
 /* The type of a structure, if the structures of its table have none. */
 #define HYSSOP_NO_KIND SIZE_MAX
@@ -102,6 +102,7 @@ enum hyssop_fault {
     HYSSOP_FAULT_WANTS_TABLE = 86, /* expected a table, whose fields stand in lines after white space */
     HYSSOP_FAULT_WANTS_FIELD_OF = 87, /* expected a field */
     HYSSOP_FAULT_WANTS_ANOTHER_NUMBER = 88, /* expected another number */
+    HYSSOP_FAULT_NOT_ASL = 89, /* the text isn't the ASL of a definition block */
     HYSSOP_FAULT_NAME_PART = 96, /* a part of a path doesn't have four bytes */
     HYSSOP_FAULT_PATH_PARTS = 97, /* a path has more than 255 parts */
     HYSSOP_FAULT_EISA_TEXT = 98, /* an EISA id is three letters from A to Z and four hexadecimal digits */
@@ -273,6 +274,11 @@ HYSSOP_RESULT enum hyssop_fault hyssop_names_among(const void *bytes, size_t byt
                                                    const char *arities, size_t arities_size, char *out, size_t out_size,
                                                    size_t *size, size_t *unread, uint64_t *place);
 
+/* Writes the definition block of a text that hyssop_disassemble wrote, or one like it (chapter 19). The text is the ASL of this
+   block, but white space and comments may be others. *place is a line, counted from 1. */
+HYSSOP_RESULT enum hyssop_fault hyssop_compile(const char *text, size_t text_size, void *out, size_t out_size, size_t *size,
+                                               uint64_t *place);
+
 /* Checks the tables in a guest's memory from the RSDP on (5.2.5 to 5.2.10). The bytes begin at the physical address `base`, and
    the RSDP is at the address `rsdp`. *place is the address of a table. */
 HYSSOP_RESULT enum hyssop_fault hyssop_check_image(const void *bytes, size_t bytes_size, uint64_t base, uint64_t rsdp,
@@ -297,12 +303,12 @@ HYSSOP_RESULT enum hyssop_fault hyssop_memory_tables(const struct hyssop_range *
 /* Finds the RSDP in memory (5.2.5.1), at a multiple of 16 bytes. *offset is where it is, and 0 with a fault. It takes no memory. */
 HYSSOP_RESULT enum hyssop_fault hyssop_find_rsdp(const void *bytes, size_t bytes_size, size_t *offset);
 
-/* Writes the text of a table, an RSDP or a FACS: a line for each field, by its name. *place is an offset. */
+/* Writes the text of a table, an RSDP, a FACS, a CDAT or an S3PT: a line for each field, by its name. *place is an offset. */
 HYSSOP_RESULT enum hyssop_fault hyssop_show(const void *bytes, size_t bytes_size, char *out, size_t out_size, size_t *size,
                                             uint64_t *place);
 
-/* Writes the rules of the standard that a table breaks, or an RSDP or a FACS: a line for each, as acpitool check prints them
-   after the name of a file. A table that breaks none has no line. *place is an offset. */
+/* Writes the rules of the standard that a table, an RSDP, a FACS, a CDAT or an S3PT breaks: a line for each, as acpitool check
+   prints them after the name of a file. A table that breaks none has no line. *place is an offset. */
 HYSSOP_RESULT enum hyssop_fault hyssop_findings(const void *bytes, size_t bytes_size, char *out, size_t out_size, size_t *size,
                                                 uint64_t *place);
 

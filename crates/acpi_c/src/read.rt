@@ -8,6 +8,7 @@ ghost use Rattle.acpi_asl.specs.declared.block.BlockText.TheVariants as blocks;
 ghost use Rattle.acpi_c_calls.specs.Aml.{AreTerms, IsAmlRefusal};
 ghost use Rattle.acpi_c_calls.specs.Among.{IsAmong, IsAmongRefusal};
 ghost use Rattle.acpi_c_calls.specs.Block.{IsBlock, IsBlockRefusal};
+ghost use Rattle.acpi_c_calls.specs.Compile.{IsBlockOf, IsCompileRefusal};
 ghost use Rattle.acpi_c_calls.specs.Find.{Finds};
 ghost use Rattle.acpi_c_calls.specs.Findings.{AreFindings};
 ghost use Rattle.acpi_c_calls.specs.Results.{Checks, Gives, GivesAnywhere};
@@ -24,6 +25,7 @@ ghost use Rattle.acpi_c_calls.specs.Table.{IsTableRefusal};
 use acpi_c_calls::aml::check_aml;
 use acpi_c_calls::among::{disassemble_among, names_among};
 use acpi_c_calls::block::{disassemble, names};
+use acpi_c_calls::compile::compile;
 use acpi_c_calls::find::find_rsdp;
 use acpi_c_calls::findings::findings;
 use acpi_c_calls::image::{ImageTable, check_image, check_memory, image_tables, memory_tables};
@@ -162,6 +164,20 @@ pub extern "C" fn hyssop_export_names_among(
         (IsAmongRefusal arities.now further.now bytes.now unread.new) out.old out.new result place.new size.new }
 {
     names_among(alloc, bytes, further, arities, out, size, unread, place)
+}
+
+/// Makes a text of ASL into a definition block.
+#[unsafe(no_mangle)]
+pub extern "C" fn hyssop_export_compile(
+    alloc: Global,
+    text: &[u8],
+    out: &mut [u8],
+    size: &mut usize,
+    place: &mut u64,
+) -> u32
+    ensures { Gives (IsBlockOf text.now) (IsCompileRefusal text.now) out.old out.new result place.new size.new }
+{
+    compile(alloc, text, out, size, place)
 }
 
 /// Checks the tables of an image.

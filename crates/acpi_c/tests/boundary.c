@@ -191,6 +191,13 @@ static uint32_t make(const void *text, size_t text_size, size_t out_size) {
     return kept(hyssop_make(given, text_size, out, out_size, &size, &place), out, out_size, 1);
 }
 
+static uint32_t compile(const void *text, size_t text_size, size_t out_size) {
+    uint8_t *out = blank(out_size);
+    place = UNTOLD;
+    const char *given = (char *)put(input, text, text_size);
+    return kept(hyssop_compile(given, text_size, out, out_size, &size, &place), out, out_size, 1);
+}
+
 static uint32_t template(const void *signature, size_t signature_size, size_t out_size) {
     uint8_t *out = blank(out_size);
     place = 0;
@@ -251,7 +258,7 @@ static void try_numbers(void) {
     want(HYSSOP_FAULT_WANTS_BYTES == 78 && HYSSOP_FAULT_WANTS_NEXT == 79 && HYSSOP_FAULT_WANTS_NAMELESS == 80);
     want(HYSSOP_FAULT_WANTS_END == 81 && HYSSOP_FAULT_WANTS_STRUCTURE == 82 && HYSSOP_FAULT_WANTS_WIDTH == 83);
     want(HYSSOP_FAULT_WANTS_WHOLE == 84 && HYSSOP_FAULT_WANTS_ONE_TABLE == 85 && HYSSOP_FAULT_WANTS_TABLE == 86);
-    want(HYSSOP_FAULT_WANTS_FIELD_OF == 87 && HYSSOP_FAULT_WANTS_ANOTHER_NUMBER == 88);
+    want(HYSSOP_FAULT_WANTS_FIELD_OF == 87 && HYSSOP_FAULT_WANTS_ANOTHER_NUMBER == 88 && HYSSOP_FAULT_NOT_ASL == 89);
     want(HYSSOP_FAULT_NAME_PART == 96 && HYSSOP_FAULT_PATH_PARTS == 97 && HYSSOP_FAULT_EISA_TEXT == 98);
     want(HYSSOP_FAULT_UUID_TEXT == 99 && HYSSOP_FAULT_ARG_NUMBER == 100 && HYSSOP_FAULT_LOCAL_NUMBER == 101);
     want(HYSSOP_FAULT_METHOD_ARGS == 102 && HYSSOP_FAULT_OBJECT_LENGTH == 103 && HYSSOP_FAULT_ADDRESS_RANGE == 104);
@@ -286,6 +293,10 @@ static void try_null(void) {
     want(hyssop_names(NULL, 1, NULL, 0, NULL, 0, NULL, NULL) == HYSSOP_FAULT_NULL);
     want(hyssop_names("", 0, NULL, 1, NULL, 0, NULL, NULL) == HYSSOP_FAULT_NULL);
     want(hyssop_names("", 0, "", 0, NULL, 1, NULL, NULL) == HYSSOP_FAULT_NULL);
+    want(hyssop_compile(NULL, 0, NULL, 0, NULL, NULL) == HYSSOP_FAULT_NOT_ASL);
+    want(hyssop_compile(NULL, 0, NULL, 0, &found, &at) == HYSSOP_FAULT_NOT_ASL && found == 0 && at == 1);
+    want(hyssop_compile(NULL, 1, NULL, 0, &found, &at) == HYSSOP_FAULT_NULL && found == 0 && at == 0);
+    want(hyssop_compile("", 0, NULL, 1, NULL, NULL) == HYSSOP_FAULT_NULL);
     static among_text *const amongs[] = {hyssop_disassemble_among, hyssop_names_among};
     for (size_t i = 0; i < 2; i++) {
         want(amongs[i](NULL, 0, NULL, 0, NULL, 0, NULL, 0, NULL, NULL, NULL) == HYSSOP_FAULT_SHORT_HEADER);
@@ -374,7 +385,7 @@ static void try_seal(void) {
 
 /* A table with these bytes after its header. */
 static size_t make_block(uint8_t *bytes, const char *signature, const void *terms, size_t count) {
-    static const char header[] = "DSDT\0\0\0\0\2\0" "FOOBAR" "CAFEDEAD" "\1\0\0\0" "RVAT" "\1\0\0";
+    static const char header[] = "DSDT\0\0\0\0\2\0" "FOOBAR" "CAFEDEAD" "\1\0\0\0" "RVAT" "\0\0\0\1";
     memmove(bytes + 36, terms, count);
     memcpy(bytes, header, 36);
     memcpy(bytes, signature, 4);
@@ -406,16 +417,20 @@ static void try_findings(void) {
 static const char block_terms[] = "\x10\x13\\_SB_" "\x5b\x82\x0b" "DEV0" "\x08" "_UID" "\x01"
                                   "\x14\x08" "MTHD" "\x01\xa4\x68" "\x70" "MTHD" "\x01\x60";
 
+/* The ASL of a block of these terms (19.6), after a note on the program that made the table. */
+static const char block_asl[] = "/*= Creator \"RVAT\", 0x01000000 */\n"
+                                "DefinitionBlock (\"\", \"DSDT\", 2, \"FOOBAR\", \"CAFEDEAD\", 0x00000001)\n{\n"
+                                "    Scope (\\_SB)\n    {\n        Device (DEV0)\n        {\n"
+                                "            Name (_UID, One)\n        }\n    }\n"
+                                "    Method (MTHD, 1, NotSerialized)\n    {\n        Return (Arg0)\n    }\n"
+                                "    Store (MTHD (One), Local0)\n}\n";
+
 static void try_block(void) {
-    static const char asl[] = "DefinitionBlock (\"\", \"DSDT\", 2, \"FOOBAR\", \"CAFEDEAD\", 0x00000001)\n{\n"
-                              "    Scope (\\_SB)\n    {\n        Device (DEV0)\n        {\n            Name (_UID, One)\n        }\n    }\n"
-                              "    Method (MTHD, 1, NotSerialized)\n    {\n        Return (Arg0)\n    }\n"
-                              "    Store (MTHD (One), Local0)\n}\n";
     static const char tree[] = "\\_SB Scope\n    DEV0 Device\n        _UID Name One\nMTHD Method, arguments: 1\n";
     static const struct {
         block_text *text;
         const char *wanted;
-    } texts[] = {{hyssop_disassemble, asl}, {hyssop_names, tree}};
+    } texts[] = {{hyssop_disassemble, block_asl}, {hyssop_names, tree}};
     static uint8_t bytes[MOST];
     size_t length = make_block(bytes, "DSDT", block_terms, sizeof block_terms - 1);
     for (size_t i = 0; i < sizeof texts / sizeof *texts; i++) {
@@ -442,9 +457,38 @@ static void try_block(void) {
     want(block(hyssop_names, bytes, length, "", 0, 0) == 0 && size == 0 && place == 0);
 }
 
+/* A text of ASL, and the line on which its fault is. */
+static void try_fault(const char *text, uint64_t line) {
+    want(compile(text, strlen(text), PLENTY) == HYSSOP_FAULT_NOT_ASL && place == line);
+}
+
+/* The text of a block is made into its bytes, also with other white space and comments. The note may be left out, since these
+   bytes have the creator that a table gets without one. */
+static void try_compile(void) {
+    static const char other[] = "DefinitionBlock(\"\",\"DSDT\",2,\"FOOBAR\",\"CAFEDEAD\",0x00000001){// a comment\n"
+                                "Scope(\\_SB)\t{Device(DEV0){Name(_UID,One)}}/* another */Method(MTHD,1,NotSerialized)\r\n"
+                                "{Return(Arg0)}Store(MTHD(One),Local0)}";
+    static uint8_t bytes[1000];
+    size_t length = make_block(bytes, "DSDT", block_terms, sizeof block_terms - 1), all = sizeof block_asl - 1;
+    want(compile(block_asl, all, 0) == HYSSOP_FAULT_BUFFER && size == length && place == 0);
+    want(compile(block_asl, all, length - 1) == HYSSOP_FAULT_BUFFER && size == length);
+    want(compile(block_asl, all, length) == 0 && size == length && place == 0);
+    want(memcmp(output.end - length, bytes, length) == 0);
+    want(compile(other, sizeof other - 1, length) == 0 && size == length && memcmp(output.end - length, bytes, length) == 0);
+    /* All but the white space at the end is needed. */
+    want(compile(block_asl, all - 1, length) == 0);
+    for (size_t cut = 0; cut < all - 1; cut++)
+        want(compile(block_asl, cut, PLENTY) == HYSSOP_FAULT_NOT_ASL && place > 0);
+    /* No block, one that isn't the only one, a signature of another table, a number without its 0x, and a word that is none. */
+    try_fault("\n\nScope (\\_SB) {}\n", 3);
+    try_fault("DefinitionBlock (\"\", \"DSDT\", 2, \"FOOBAR\", \"CAFEDEAD\", 0x00000001)\n{\n    Name (A, 5)\n}\n", 3);
+    try_fault("/* two\nlines */ DefinitionBlock (\"\", \"SSDT\", 2, \"FOOBAR\", \"CAFEDEAD\", 0x00000001)\n{\n    noop\n}\n", 4);
+}
+
 /* Store (MTHD (One), Local0), where another block has Method (MTHD, 1) {Return (Arg0)} and Device (\_SB.DEV0) {} (20.2.5). */
 static void try_among(void) {
-    static const char asl[] = "DefinitionBlock (\"\", \"SSDT\", 2, \"FOOBAR\", \"CAFEDEAD\", 0x00000001)\n{\n"
+    static const char asl[] = "/*= Creator \"RVAT\", 0x01000000 */\n"
+                              "DefinitionBlock (\"\", \"SSDT\", 2, \"FOOBAR\", \"CAFEDEAD\", 0x00000001)\n{\n"
                               "    Store (MTHD (One), Local0)\n}\n";
     static const struct {
         among_text *text;
@@ -502,6 +546,18 @@ static size_t nested(uint8_t *bytes, size_t levels) {
     return MOST - at;
 }
 
+/* ASL of one term whose operators nest this deep (20.2.5.4, DefLNot). */
+static size_t nested_text(char *text, size_t levels) {
+    size_t at = (size_t)sprintf(text, "DefinitionBlock (\"\", \"DSDT\", 2, \"FOOBAR\", \"CAFEDEAD\", 0x00000001)\n{\n");
+    for (size_t i = 0; i < levels; i++)
+        at += (size_t)sprintf(text + at, "LNot (");
+    at += (size_t)sprintf(text + at, "One");
+    for (size_t i = 0; i < levels; i++)
+        text[at++] = ')';
+    text[at++] = '}';
+    return at;
+}
+
 static void *read_nested(void *unused) {
     static uint8_t bytes[MOST];
     (void)unused;
@@ -512,16 +568,24 @@ static void *read_nested(void *unused) {
 
 /* The same in a definition block, with a stack of 2 MiB. */
 static void *show_nested(void *unused) {
-    static uint8_t terms[MOST], bytes[MOST + 36];
+    static uint8_t terms[MOST], bytes[MOST + 36], text[MOST];
+    static char deep[PLENTY];
     (void)unused;
     size_t length = make_block(bytes, "DSDT", terms, nested(terms, 255));
     want(block(hyssop_disassemble, bytes, length, "", 0, MOST) == HYSSOP_FINE);
+    size_t all = size;
+    memcpy(text, output.end - MOST, all);
+    want(compile(text, all, MOST) == HYSSOP_FINE);
     want(block(hyssop_names, bytes, length, "", 0, MOST) == HYSSOP_FINE);
     want(among(hyssop_disassemble_among, bytes, length, bytes, length, "", MOST) == HYSSOP_FINE && unread == 0);
     want(among(hyssop_names_among, bytes, length, bytes, length, "", MOST) == HYSSOP_FINE && unread == 0);
     length = make_block(bytes, "DSDT", terms, nested(terms, 256));
     want(block(hyssop_disassemble, bytes, length, "", 0, MOST) == HYSSOP_FAULT_TOO_DEEP);
     want(among(hyssop_disassemble_among, bytes, length, bytes, length, "", MOST) == HYSSOP_FINE && unread >= 36);
+    /* Operators nest as deep as terms may. A text may nest deeper, but no block has it as its ASL. */
+    want(compile(deep, nested_text(deep, 200), PLENTY) == HYSSOP_FINE && size == 36 + 200 + 1);
+    for (size_t levels = 300; levels < 1000; levels += 5)
+        want(compile(deep, nested_text(deep, levels), PLENTY) == HYSSOP_FAULT_NOT_ASL && place > 0);
     return NULL;
 }
 
@@ -548,6 +612,7 @@ static void try_empty(void) {
     want(template("", 0, 0) == HYSSOP_FAULT_SIGNATURE && template("APICX", 5, 0) == HYSSOP_FAULT_SIGNATURE);
     want(template("\xff\xff\xff\xff", 4, 0) == HYSSOP_FAULT_SIGNATURE);
     want(make("", 0, MOST) == HYSSOP_FAULT_WANTS_TABLE && size == 0 && place == 1);
+    want(compile("", 0, MOST) == HYSSOP_FAULT_NOT_ASL && size == 0 && place == 1);
 }
 
 static void try_template(void) {
@@ -763,6 +828,8 @@ static void try_random(const uint8_t *table, size_t count) {
         some = vary(bytes, text, length);
         make(bytes, some, any(2) == 0 ? PLENTY : any(500));
         notes((const char *)bytes, some, any(3));
+        some = vary(bytes, (const uint8_t *)block_asl, sizeof block_asl - 1);
+        compile(bytes, some, any(2) == 0 ? PLENTY : any(200));
         want(hyssop_fault_words((uint32_t)any(UINT32_MAX))[0] != 0);
     }
 }
@@ -816,6 +883,8 @@ static void try_memory(void) {
     tell("disassemble", number, MOST);
     while (is_refused(number = block(hyssop_names, table, count, "", 0, MOST))) {}
     tell("names", number, MOST);
+    while (is_refused(number = compile(block_asl, sizeof block_asl - 1, MOST))) {}
+    tell("compile", number, MOST);
     while (is_refused(number = among(hyssop_disassemble_among, table, count, table, count, "", MOST))) {}
     tell("disassemble_among", number, MOST);
     while (is_refused(number = among(hyssop_names_among, table, count, table, count, "MTHD=2", MOST))) {}
@@ -851,6 +920,7 @@ int main(int count, char **files) {
     try_notes();
     try_seal();
     try_block();
+    try_compile();
     try_among();
     try_findings();
     try_stack();

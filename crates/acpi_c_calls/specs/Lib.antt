@@ -11,6 +11,7 @@ pub mod Show
 pub mod Findings
 pub mod Find
 pub mod Make
+pub mod Compile
 pub mod Notes
 pub mod Names
 pub mod Seal

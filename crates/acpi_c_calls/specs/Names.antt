@@ -5,7 +5,7 @@ use Rattle.acpi_c_calls.specs.declared.fault.Fault.TheVariants.{UnknownNumber}
 use Rattle.acpi_c_calls.specs.declared.refused.Refused.{Refused}
 
 abbrev pub version : ℕ
-version = 8
+version = 9
 
 abbrev pub IsName : ℕ → List ℕ → Type 0
 IsName number text = words_of number ≡ Some text

@@ -1,5 +1,8 @@
 -- Why calls fail, and where.
 use Rattle.std.specs.Prelude.{ℕ, List, Option, Some, None}
+use Rattle.acpi_compile.specs.Squeeze.{line_of}
+use Rattle.acpi_compile.specs.declared.fault.AslError.{AslError}
+use Rattle.acpi_compile.specs.declared.fault.AslError.TheVariants as blocks
 use Rattle.acpi_layout.specs.declared.fault.ImageFault.{ImageFault}
 use Rattle.acpi_layout.specs.declared.fault.ImageFault.TheVariants as images
 use Rattle.acpi_make.specs.Fault.{line_at}
@@ -107,3 +110,10 @@ fault_of_wanted wanted.AnotherNumber = fault.WantsAnotherNumber
 abbrev pub by_make : List ℕ → MakeError → Refused
 by_make text texts.Memory = by_memory
 by_make text (texts.Fault wrong) = record { fault = fault_of_wanted wrong.wanted; place = line_at wrong.from text }
+
+-- ---- faults of ASL
+
+-- with the line of the text
+abbrev pub by_asl : List ℕ → AslError → Refused
+by_asl text blocks.Memory = by_memory
+by_asl text (blocks.Fault wrong) = record { fault = fault.NotAsl; place = line_of wrong.at text }

@@ -69,6 +69,7 @@ pub enum Fault {
     WantsTable,
     WantsFieldOf,
     WantsAnotherNumber,
+    NotAsl,
     NamePart,
     PathParts,
     EisaText,
@@ -155,6 +156,7 @@ macro_rules! faults {
             WantsTable 86 "expected a table, whose fields stand in lines after white space"
             WantsFieldOf 87 "expected a field"
             WantsAnotherNumber 88 "expected another number"
+            NotAsl 89 "the text isn't the ASL of a definition block"
             NamePart 96 "a part of a path doesn't have four bytes"
             PathParts 97 "a path has more than 255 parts"
             EisaText 98 "an EISA id is three letters from A to Z and four hexadecimal digits"

@@ -7,6 +7,7 @@ pub mod among;
 pub mod begin;
 pub mod block;
 pub mod close;
+pub mod compile;
 pub mod fault;
 pub mod field;
 pub mod find;

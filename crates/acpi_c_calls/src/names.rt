@@ -32,5 +32,5 @@ pub fn fault_name(number: u32, out: &mut [u8], size: &mut usize) -> u32
 pub fn version() -> u32
     ensures { result ≡ version }
 {
-    8
+    9
 }

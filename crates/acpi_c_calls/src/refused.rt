@@ -2,9 +2,10 @@
 
 ghost use Rattle.std.specs.Prelude.{◌≡◌};
 ghost use Rattle.acpi_c_calls.specs.Refused.{fault_of_read, fault_of_image, place_of_image, fault_of_wanted};
-ghost use Rattle.acpi_c_calls.specs.Refused.{by_memory, by_read, by_image, by_make};
+ghost use Rattle.acpi_c_calls.specs.Refused.{by_memory, by_read, by_image, by_make, by_asl};
 
 use crate::fault::Fault;
+use acpi_compile::fault::AslError;
 use acpi_layout::fault::ImageFault;
 use acpi_make::fault::{MakeError, Wanted, find_position};
 use acpi_term::read_error::ReadError;
@@ -126,6 +127,19 @@ impl Refused {
             MakeError::Fault(fault) => Refused {
                 fault: fault_of_wanted(fault.wanted),
                 place: find_position(fault.from, text).line as u64,
+            },
+        }
+    }
+
+    /// Why a text isn't made into a definition block. The place is the line, counted from 1.
+    pub fn of_asl(error: AslError, text: &[u8]) -> Refused
+        ensures { result ≡ by_asl text.now error }
+    {
+        match error {
+            AslError::Memory => Refused::anywhere(Fault::Memory),
+            AslError::Fault(fault) => Refused {
+                fault: Fault::NotAsl,
+                place: fault.line(text) as u64,
             },
         }
     }

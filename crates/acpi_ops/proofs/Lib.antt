@@ -1,7 +1,10 @@
 pub mod Built
 pub mod Bytes
+pub mod Elements
+pub mod FieldLists
 pub mod Items
 pub mod Meanings
+pub mod Roomy
 pub mod Spaces
 pub mod Standard
 pub mod Templates

@@ -49,7 +49,7 @@ fatal_means kind code argument low small = record {
 
 -- ---- fields
 
-access_small : (a : FieldAccessType) → access_number a ≤ 5
+pub access_small : (a : FieldAccessType) → access_number a ≤ 5
 access_small access.Any = omega arith
 access_small access.Byte = omega arith
 access_small access.Word = omega arith
@@ -57,11 +57,11 @@ access_small access.DWord = omega arith
 access_small access.QWord = omega arith
 access_small access.Buffer = omega arith
 
-lock_small : (l : FieldLockRule) → lock_number l ≤ 1
+pub lock_small : (l : FieldLockRule) → lock_number l ≤ 1
 lock_small lock.NoLock = omega arith
 lock_small lock.Lock = omega arith
 
-update_small : (u : FieldUpdateRule) → update_number u ≤ 2
+pub update_small : (u : FieldUpdateRule) → update_number u ≤ 2
 update_small update.Preserve = omega arith
 update_small update.WriteAsOnes = omega arith
 update_small update.WriteAsZeroes = omega arith

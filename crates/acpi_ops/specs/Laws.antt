@@ -1,5 +1,5 @@
 -- Laws about the definitions, which hold for all calls.
-use Rattle.std.specs.Prelude.{◌≡◌, ℕ, ◌<◌, ◌^◌, nat_lt, Bool, true, false, List, [], ◌∷◌, ◌++◌, length, map, None}
+use Rattle.std.specs.Prelude.{◌≡◌, ◌≢◌, ℕ, ◌<◌, ◌≤◌, ◌^◌, nat_lt, Bool, true, false, List, [], ◌∷◌, ◌++◌, length, map, None}
 use Rattle.acpi_base.specs.declared.gas.GAS.{GAS}
 use Rattle.acpi_base.specs.Bytes.{AreBytes}
 use Rattle.acpi_base.specs.Object.{Object, all_of}
@@ -10,14 +10,20 @@ use Rattle.acpi_term.specs.declared.op.Op.TheVariants.{LNot, Match}
 use Rattle.acpi_term.specs.declared.language.Language.TheVariants.{Standard}
 use Rattle.acpi_term.specs.Language.{grammar_of}
 use Rattle.acpi_term.specs.Name.{IsNameString}
-use Rattle.acpi_term.specs.Tree.{Head, op, def_fatal, match_test, Terms, one}
+use Rattle.acpi_term.specs.Tree.{Entry, Head, op, def_fatal, match_test, Terms, one}
+use Rattle.acpi_term.specs.Tree.{def_method, def_leveled_method, def_package, def_roomy_package}
+use Rattle.acpi_term.specs.Tree.{def_field, def_index_field, def_bank_field}
 use Rattle.acpi_term.specs.Row.{row, writer_width}
 use Rattle.acpi_term.specs.Spelling.{SpellEach, Spells, SpellEachIn, SpellsIn, AreStandardEntries, inner, is_test}
 use Rattle.acpi_aml.specs.declared.field.FieldAccessType.{FieldAccessType}
 use Rattle.acpi_aml.specs.declared.field.FieldEntry.{FieldEntry}
 use Rattle.acpi_aml.specs.declared.field.FieldLockRule.{FieldLockRule}
 use Rattle.acpi_aml.specs.declared.field.FieldUpdateRule.{FieldUpdateRule}
-use Rattle.acpi_aml.specs.Field.{entries_of}
+use Rattle.acpi_aml.specs.Field.{access_number, lock_number, update_number, entries_of}
+use Rattle.acpi_ops.specs.declared.element.FieldElement.{FieldElement}
+use Rattle.acpi_ops.specs.Element.{field_list_head, index_list_head, bank_list_head, AreElements}
+use Rattle.acpi_ops.specs.Method.{leveled_method}
+use Rattle.acpi_ops.specs.Package.{roomy_package}
 use Rattle.acpi_ops.specs.Field.{index_field_head, bank_field_head}
 use Rattle.acpi_ops.specs.declared.search.Comparison.{Comparison}
 use Rattle.acpi_ops.specs.Search.{comparison_number}
@@ -95,6 +101,52 @@ abbrev pub FieldsMean : Type 0
 FieldsMean =
     (access : FieldAccessType) (lock : FieldLockRule) (update : FieldUpdateRule) (entries : List FieldEntry)
     → AreStandardEntries Standard (entries_of entries) → FieldsOfFieldsMean access lock update entries
+
+-- A package with room is that of the standard, unless it has as many elements: then it is a package without room for more.
+pub record RoomyPackageMeans (room : ℕ) (objects : List Object) : Type 0 where
+  pub is : length objects ≢ room → roomy_package room objects ≡ row (def_roomy_package room) objects
+  pub full : length objects ≡ room → roomy_package room objects ≡ row def_package objects
+  pub means : HeadMeans false (def_roomy_package room) objects
+
+abbrev pub RoomyPackagesMean : Type 0
+RoomyPackagesMean = (room : ℕ) (objects : List Object) → room < 2 ^ 8 → RoomyPackageMeans room objects
+
+-- A method with a level from 1 to 15 is that of the standard, and one with level 0 is a method without a level.
+pub record LeveledMethodMeans (path : List ℕ) (args : ℕ) (serialized : Bool) (objects : List Object) : Type 0 where
+  pub is : (level : ℕ) → level ≤ 15
+      → leveled_method path args serialized level objects ≡ row (def_leveled_method path args serialized level) objects
+  pub none : leveled_method path args serialized 0 objects ≡ row (def_method path args serialized) objects
+  pub means : (level : ℕ) → IsNameString path → 1 ≤ level → level ≤ 15
+      → HeadMeans false (def_leveled_method path args serialized level) objects
+
+abbrev pub LeveledMethodsMean : Type 0
+LeveledMethodsMean =
+    (path : List ℕ) (args : ℕ) (serialized : Bool) (objects : List Object) → LeveledMethodMeans path args serialized objects
+
+-- Fields with these elements are the fields with the entries for which they stand, with every access type, lock rule and update
+-- rule.
+pub record FieldListsMean (access : FieldAccessType) (lock : FieldLockRule) (update : FieldUpdateRule)
+    (elements : List FieldElement) (entries : List Entry) : Type 0 where
+  pub field_is : (region : List ℕ) → row (field_list_head region access lock update elements) []
+      ≡ row (def_field region (access_number access) (lock_number lock) (update_number update) entries) []
+  pub field : (region : List ℕ) → IsNameString region
+      → HeadMeans false (def_field region (access_number access) (lock_number lock) (update_number update) entries) []
+  pub index_is : (index name : List ℕ) → row (index_list_head index name access lock update elements) []
+      ≡ row (def_index_field index name (access_number access) (lock_number lock) (update_number update) entries) []
+  pub index : (index name : List ℕ) → IsNameString index → IsNameString name
+      → HeadMeans false (def_index_field index name (access_number access) (lock_number lock) (update_number update) entries) []
+  pub bank_is : (region bank : List ℕ) (value : Object)
+      → row (bank_list_head region bank access lock update elements) (value ∷ [])
+      ≡ row (def_bank_field region bank (access_number access) (lock_number lock) (update_number update) entries) (value ∷ [])
+  pub bank : (region bank : List ℕ) (value : Object) → IsNameString region → IsNameString bank
+      → HeadMeans false (def_bank_field region bank (access_number access) (lock_number lock) (update_number update) entries)
+      (value ∷ [])
+
+abbrev pub AllFieldListsMean : Type 0
+AllFieldListsMean =
+    (access : FieldAccessType) (lock : FieldLockRule) (update : FieldUpdateRule) (elements : List FieldElement)
+    (entries : List Entry) → AreElements elements entries → AreStandardEntries Standard entries
+    → FieldListsMean access lock update elements entries
 
 -- ---- resource items
 

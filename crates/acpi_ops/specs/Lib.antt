@@ -2,12 +2,15 @@ pub mod AddressSpace
 pub mod Clock
 pub mod Csi2
 pub mod Descriptor
+pub mod Element
 pub mod Field
 pub mod Gpio
 pub mod Interrupts
 pub mod Item
 pub mod Laws
 pub mod Memory
+pub mod Method
+pub mod Package
 pub mod Parts
 pub mod Pins
 pub mod Search

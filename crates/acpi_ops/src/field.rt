@@ -76,8 +76,8 @@ impl Operation<Banked, DefField> {
     }
 }
 
-// Two names, one after the other.
-fn names(alloc: Global, first: &Path, second: &Path) -> R<Vec<u8>>
+/// Two names, one after the other.
+pub(crate) fn names(alloc: Global, first: &Path, second: &Path) -> R<Vec<u8>>
     ensures ok { IfOk result (λ bytes. bytes.items ≡ first.now ++ second.now) }
     ensures err { IfErr result (λ e. IsOwnEnd e (whole [])) }
 {

@@ -4,6 +4,7 @@ ghost use Rattle.std.specs.Prelude.{List, [], ◌∷◌};
 ghost use Rattle.acpi_base.specs.Object.{Object};
 ghost use Rattle.acpi_ops.specs.Laws.{OperatorMeans, NegationMeans, SplitsInOneWay};
 ghost use Rattle.acpi_ops.specs.Laws.{SearchesMean, FatalMeans, FieldsMean};
+ghost use Rattle.acpi_ops.specs.Laws.{RoomyPackagesMean, LeveledMethodsMean, AllFieldListsMean};
 ghost use Rattle.acpi_ops.specs.Laws.{DescriptorsAreItems, TemplatesSplit, DescriptorsAreBytes};
 ghost use Rattle.acpi_term.specs.declared.op.Op.TheVariants as ops;
 
@@ -79,6 +80,22 @@ pub fn fatal_means()
 #[tactic(auto, using(crate::proofs::Standard::fields_mean))]
 pub fn fields_mean()
     ensures { FieldsMean }
+{}
+
+/// `RoomyPackage`.
+pub fn roomy_packages_mean()
+    ensures { RoomyPackagesMean }
+{}
+
+/// `LeveledMethod`.
+pub fn leveled_methods_mean()
+    ensures { LeveledMethodsMean }
+{}
+
+/// `FieldList`, `IndexFieldList` and `BankFieldList`.
+#[tactic(auto, using(crate::proofs::FieldLists::field_lists_mean))]
+pub fn field_lists_mean()
+    ensures { AllFieldListsMean }
 {}
 
 // ---- resource descriptors

@@ -1,11 +1,11 @@
--- The numbers in a table that other tables of its machine define, such as proximity domains.
+-- The numbers in a table by which it names parts of its machine, such as proximity domains and processors.
 use Rattle.std.specs.Prelude.{ℕ, ◌+◌, nat_le, nat_lt, ◌&&◌, Bool, if◌then◌else◌, List, [], ◌++◌, codes}
 use Rattle.std.specs.Fmt.{decimal}
 use Rattle.std.specs.List.{flat_map}
 use Rattle.acpi_rules.specs.Across.{column_items}
 use Rattle.acpi_rules.specs.Item.{Item}
 use Rattle.acpi_rules.specs.Link.{Link}
-use Rattle.acpi_rules.specs.Machine.{named}
+use Rattle.acpi_rules.specs.Machine.{affinities, named}
 use Rattle.acpi_rules.specs.Rules.{number_of}
 use Rattle.acpi_tree.specs.Spaces.{spaces}
 use Rattle.acpi_tree.specs.declared.graph.Node.{Node}
@@ -16,7 +16,7 @@ link_items table link = column_items link.column table
 
 -- those of a table, in the order of the rules
 abbrev pub named_in : List ℕ → List Item
-named_in table = flat_map (link_items table) named
+named_in table = flat_map (link_items table) affinities ++ flat_map (link_items table) named
 
 -- whether a field is in a structure
 abbrev pub is_inside : Node → Item → Bool

@@ -1,12 +1,12 @@
-//! The numbers in a table that other tables of its machine define, such as proximity domains. A function whose name begins with
-//! `push` adds to a list or a text.
+//! The numbers in a table by which it names parts of its machine, such as proximity domains and processors. A function whose name
+//! begins with `push` adds to a list or a text.
 
 ghost use Rattle.std.specs.Prelude.{◌≡◌, ◌++◌, map, IfOk, OnOk};
 ghost use Rattle.std.specs.List.{flat_map};
 ghost use Rattle.acpi_rules.specs.Across.{column_items};
 ghost use Rattle.acpi_rules.specs.Item.{item_by};
 ghost use Rattle.acpi_rules.specs.Link.{column_by, link_by};
-ghost use Rattle.acpi_rules.specs.Machine.{named};
+ghost use Rattle.acpi_rules.specs.Machine.{affinities, named};
 ghost use Rattle.acpi_tree.specs.Named.{link_items, named_in, is_inside, name_line, name_line_in, name_lines};
 
 use crate::graph::Node;
@@ -15,7 +15,7 @@ use acpi_json::number::push_decimal;
 use acpi_rules::across::column_items;
 use acpi_rules::item::Item;
 use acpi_rules::link::Link;
-use acpi_rules::machine::NAMED;
+use acpi_rules::machine::{AFFINITIES, NAMED};
 use acpi_rules::rules::number_of;
 use std::alloc::{AllocError, Global};
 
@@ -57,23 +57,38 @@ fn push_links<'a>(
     Ok(())
 }
 
-// Adds the numbers of a table.
+// Adds the numbers of processors and of proximity domains in a SRAT.
+#[tactic(auto, unfolding(acpi_rules::specs::Machine::affinities))]
+fn push_affinities<'a>(
+    alloc: Global,
+    table: &'a [u8],
+    items: &mut Vec<Item<'a>>,
+) -> Result<(), AllocError>
+    ensures { OnOk result (map item_by items.new.items
+        ≡ map item_by items.old.items ++ flat_map (link_items table.now) affinities) }
+{
+    push_links(alloc, table, &AFFINITIES, items)
+}
+
+// Adds the numbers of another table.
 #[tactic(auto, unfolding(acpi_rules::specs::Machine::named))]
 fn push_named<'a>(
     alloc: Global,
     table: &'a [u8],
     items: &mut Vec<Item<'a>>,
 ) -> Result<(), AllocError>
-    ensures { OnOk result (map item_by items.new.items ≡ map item_by items.old.items ++ named_in table.now) }
+    ensures { OnOk result (map item_by items.new.items
+        ≡ map item_by items.old.items ++ flat_map (link_items table.now) named) }
 {
     push_links(alloc, table, &NAMED, items)
 }
 
-/// Returns the fields of a table with numbers that another table defines, by the rules of `NAMED`, in their order.
+/// Returns the fields of a table with numbers of which the rules of `AFFINITIES` and of `NAMED` speak, in their order.
 pub fn named_in<'a>(alloc: Global, table: &'a [u8]) -> Result<Vec<Item<'a>>, AllocError>
     ensures { IfOk result (λ items. map item_by items.items ≡ named_in table.now) }
 {
     let mut items = Vec::new(alloc);
+    push_affinities(alloc, table, &mut items)?;
     push_named(alloc, table, &mut items)?;
     Ok(items)
 }
@@ -115,7 +130,7 @@ fn push_name_in(
     Ok(())
 }
 
-/// Adds a line for each number in a structure that another table defines, two spaces further in than the structure.
+/// Adds a line for each of these numbers that is in a structure, two spaces further in than the structure.
 pub fn push_names(
     depth: usize,
     node: &Node,

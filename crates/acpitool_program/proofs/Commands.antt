@@ -1,9 +1,10 @@
 -- Words ask for at most one command.
-use Rattle.std.proofs.Common.{◌≡◌, ◌⊎◌, ℕ, Bool, true, false, map, List, [], ◌∷◌, ◌++◌, length, refl, sym, ap, subst, ◌∙◌, inl, inr, arith, codes, string_bytes}
+use Rattle.std.proofs.Common.{◌≡◌, ◌⊎◌, ℕ, Bool, true, false, map, List, [], ◌∷◌, ◌++◌, Option, length, refl, sym, ap, subst, ◌∙◌, inl, inr, arith, codes, string_bytes}
 use Rattle.std.proofs.lemmas.List.{length-map}
+use Rattle.acpitool_program.proofs.Rests.{same_addresses, same_rest}
 use Rattle.acpitool_program.proofs.Verbs.{heads, tails, same_verb, no_version, no_help, asks_no_help}
-use Rattle.acpitool_program.specs.Command.{begins_with_json, begins_with_bare, begins_with_dot, after_option, files_in, forces, unforced, IsAddress, AreImage, AreUnpack, AreLay, AreAfter, IsHelp, BeginsWithHelp, AsksForHelp, Asks}
-use Rattle.acpitool_program.specs.Laws.{Content, option_if, content, AskForOne}
+use Rattle.acpitool_program.specs.Command.{begins_with_json, begins_with_bare, begins_with_dot, after_option, files_in, forces, unforced, AreImage, AreUnpack, AreLay, IsRest, AreAfter, IsHelp, BeginsWithHelp, AsksForHelp, Asks}
+use Rattle.acpitool_program.specs.Laws.{Content, option_if, rsdp_if, content, AskForOne}
 use Rattle.acpitool_program.specs.declared.command.Command.{Command}
 use Rattle.acpitool_program.specs.declared.command.Command.TheVariants.{Help, Version, Show, Check, Image, Make, Template}
 use Rattle.acpitool_program.specs.declared.command.Command.TheVariants.{Disassemble, Names, Unpack, Cpio, Lay, Loader, Diff, Json, Tree}
@@ -19,12 +20,6 @@ same_parts (x ∷ a) b (y ∷ d) e is long =
     let rest = same_parts a b d e (cc) (omega (arith, long)) in
     let first : x ≡ y = cc in
     (ap (λ z. z ∷ a) first ∙ ap (λ l. y ∷ l) rest.0, rest.1)
-
-same_addresses : (v w : List ℕ) (base from : ℕ) → v ≡ w → IsAddress v base → IsAddress w from → base ≡ from
-same_addresses v w base from same one two =
-    let P : List ℕ → Type 0 = λ l. IsAddress l base in
-    let here = subst P same one in
-    here.is ∙ sym two.is
 
 same_images : (m n : List (List ℕ)) (file other : List ℕ) (base from : ℕ) → m ≡ n → AreImage m file base → AreImage n other from
     → (file ≡ other) × (base ≡ from)
@@ -65,8 +60,8 @@ IsOf verbs.Unpack more k =
 IsOf verbs.Cpio more k =
     (folder : List ℕ) × (file : List ℕ) × (more ≡ folder ∷ file ∷ []) × (k ≡ (codes "cpio", folder ∷ file ∷ [], [], 0, []))
 IsOf verbs.Lay more k =
-    (folder : List ℕ) × (file : List ℕ) × (base : ℕ) × AreLay more folder file base
-    × (k ≡ (codes "lay", folder ∷ file ∷ [], [], base, []))
+    (rsdp : Option ℕ) × (rest : List (List ℕ)) × (folder : List ℕ) × (file : List ℕ) × (base : ℕ) × IsRest more rsdp rest
+    × AreLay rest folder file base × (k ≡ (codes "lay", folder ∷ file ∷ [], [], base, rsdp_if rsdp))
 IsOf verbs.Loader more k =
     (folder : List ℕ) × (to : List ℕ) × (more ≡ folder ∷ to ∷ []) × (k ≡ (codes "loader", folder ∷ to ∷ [], [], 0, []))
 IsOf verbs.Diff more k =
@@ -105,13 +100,16 @@ one_of verbs.Unpack more k l one two =
     cc (one.4, two.4, file, folder, base)
 one_of verbs.Cpio more k l one two = cc (one.2, one.3, two.2, two.3)
 one_of verbs.Lay more k l one two =
-    let these = one.3 in
-    let those = two.3 in
-    let word : these.0 ≡ those.0 = cc (these.1, those.1) in
-    let folder : one.0 ≡ two.0 = cc (these.1, those.1) in
-    let file : one.1 ≡ two.1 = cc (these.1, those.1) in
-    let base = same_addresses these.0 those.0 one.2 two.2 word these.2 those.2 in
-    cc (one.4, two.4, folder, file, base)
+    let rests = same_rest more one.1 two.1 one.0 two.0 one.5 two.5 in
+    let option : rsdp_if one.0 ≡ rsdp_if two.0 = ap (λ (rsdp : Option ℕ). rsdp_if rsdp) rests.0 in
+    let rest : one.1 ≡ two.1 = rests.1 in
+    let these = one.6 in
+    let those = two.6 in
+    let word : these.0 ≡ those.0 = cc (these.1, those.1, rest) in
+    let folder : one.2 ≡ two.2 = cc (these.1, those.1, rest) in
+    let file : one.3 ≡ two.3 = cc (these.1, those.1, rest) in
+    let base = same_addresses these.0 those.0 one.4 two.4 word these.2 those.2 in
+    cc (one.7, two.7, folder, file, base, option)
 one_of verbs.Loader more k l one two = cc (one.2, one.3, two.2, two.3)
 one_of verbs.Diff more k l one two = cc (one.2, one.3, two.2, two.3)
 one_of verbs.Tree more k l one two = cc (one.1, one.2, two.1, two.2)
@@ -199,8 +197,12 @@ are_of words (Unpack file folder base) all =
     inr (inr (record { verb = verbs.Unpack; more = all.0; after = all.1; of = (_, _, _, all.2, refl) }))
 are_of words (Cpio folder file) all =
     inr (inr (record { verb = verbs.Cpio; more = all.0; after = all.1; of = (_, _, all.2, refl) }))
-are_of words (Lay folder file base) all =
-    inr (inr (record { verb = verbs.Lay; more = all.0; after = all.1; of = (_, _, _, all.2, refl) }))
+are_of words (Lay rsdp folder file base) all = inr (inr (record {
+  verb = verbs.Lay;
+  more = all.0;
+  after = all.2;
+  of = (rsdp, all.1, folder.now, file.now, base, all.3, all.4, refl);
+}))
 are_of words (Loader folder to) all =
     inr (inr (record { verb = verbs.Loader; more = all.0; after = all.1; of = (_, _, all.2, refl) }))
 are_of words (Diff first second) all =

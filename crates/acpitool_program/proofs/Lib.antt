@@ -1,3 +1,4 @@
+mod Aparts
 mod Archives
 mod Blocks
 mod Broken
@@ -10,6 +11,7 @@ mod Machines
 mod Outcomes
 mod Paths
 mod Pointers
+mod Rests
 mod Runs
 mod Spaces
 mod Streams

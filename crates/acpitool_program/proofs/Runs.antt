@@ -1,7 +1,8 @@
 -- A flush after a run, which keeps what was printed.
 use Rattle.std.proofs.Common.{◌⊎◌, ℕ, Bool, true, false, List, Option, map, string_bytes, inl, inr}
 use Rattle.std.specs.Io.KnownBytes.{Keeps}
-use Rattle.acpitool_program.proofs.Kept.{unread_kept, unpacked_kept, written_kept, archived_kept, laid_kept, loaded_kept, compared_kept}
+use Rattle.acpitool_program.proofs.Aparts.{lays_kept}
+use Rattle.acpitool_program.proofs.Kept.{unread_kept, unpacked_kept, written_kept, archived_kept, loaded_kept, compared_kept}
 use Rattle.acpitool_program.proofs.Streams.{keeps_kept, appends_kept}
 use Rattle.acpitool_program.specs.Checking.{AreChecked}
 use Rattle.acpitool_program.specs.Disassembly.{DisassemblesFile}
@@ -10,7 +11,8 @@ use Rattle.acpi_asl.specs.declared.block.BlockText.TheVariants as blocks
 use Rattle.acpitool_program.specs.Drawing.{Draws, DrawsFile, DrawsImage}
 use Rattle.acpitool_program.specs.Job.{Job, shows}
 use Rattle.acpitool_program.specs.Listing.{Listed}
-use Rattle.acpitool_program.specs.Making.{MakesWord, Makes}
+use Rattle.acpi_compile.specs.Compiled.{is_asl}
+use Rattle.acpitool_program.specs.Making.{MakesOf, MakesWord, Makes}
 use Rattle.acpitool_program.specs.Outcome.{Outcome, Printed}
 use Rattle.acpi_forms.specs.Known.{is_known}
 use Rattle.acpi_terms_text.specs.Objects.{Callee}
@@ -141,19 +143,29 @@ block_kept block file words o o' o'' e e' s kept (inl all) =
     inl (record { all = all.all; stated = all.stated; disassembles = among_kept block all.all file _ o o' o'' e e' s kept all.disassembles })
 block_kept block file words o o' o'' e e' s kept (inr not) = inr (unstated_kept _ o o' o'' e e' s kept not)
 
+text_kept : (asl force : Bool) (name text file : List ℕ) (o o' o'' e e' : Option (List ℕ)) (s : ℕ) → Keeps o' o''
+    → MakesOf asl force name text file o o' e e' s → MakesOf asl force name text file o o'' e e' s
+text_kept true force name text file o o' o'' e e' s kept (inl made) = inl (record {
+  bytes = made.bytes;
+  between = made.between;
+  compiled = made.compiled;
+  wrote = written_kept made.bytes file o o' o'' made.between e' s kept made.wrote;
+})
+text_kept true force name text file o o' o'' e e' s kept (inr none) =
+    inr (record { not = none.not; silent = keeps_kept o o' o'' none.silent kept; is = none.is })
+text_kept false force name text file o o' o'' e e' s kept (inl made) = inl (record {
+  bytes = made.bytes;
+  between = made.between;
+  made = made.made;
+  wrote = written_kept made.bytes file o o' o'' made.between e' s kept made.wrote;
+})
+text_kept false force name text file o o' o'' e e' s kept (inr none) =
+    inr (record { not = none.not; silent = keeps_kept o o' o'' none.silent kept; is = none.is })
+
 word_kept : (force : Bool) (name file : List ℕ) (o o' o'' e e' : Option (List ℕ)) (s : ℕ) → Keeps o' o''
     → MakesWord force name file o o' e e' s → MakesWord force name file o o'' e e' s
-word_kept force name file o o' o'' e e' s kept (inl (text, inl made)) = inl (
-  text,
-  inl (record {
-    bytes = made.bytes;
-    between = made.between;
-    made = made.made;
-    wrote = written_kept made.bytes file o o' o'' made.between e' s kept made.wrote;
-  }),
-)
-word_kept force name file o o' o'' e e' s kept (inl (text, inr none)) =
-    inl (text, inr (record { not = none.not; silent = keeps_kept o o' o'' none.silent kept; is = none.is }))
+word_kept force name file o o' o'' e e' s kept (inl (text, made)) =
+    inl (text, text_kept (is_asl text) force name text file o o' o'' e e' s kept made)
 word_kept force name file o o' o'' e e' s kept (inr not) = inr (unread_kept name o o' o'' e e' s kept not)
 
 made_kept : (force : Bool) (name file : List ℕ) (o o' o'' e e' : Option (List ℕ)) (s : ℕ) → Keeps o' o''
@@ -226,7 +238,7 @@ done_kept o o' o'' e e' s (Disassemble file numbers) kept done = block_kept bloc
 done_kept o o' o'' e e' s (Names json file numbers) kept done = block_kept (names_text json) file.now (map (λ word. string_bytes word) numbers.now) o o' o'' e e' s kept done
 done_kept o o' o'' e e' s (Unpack file folder base) kept done = unpacked_kept file.now folder.now base o o' o'' e e' s kept done
 done_kept o o' o'' e e' s (Cpio folder file) kept done = archived_kept folder.now file.now o o' o'' e e' s kept done
-done_kept o o' o'' e e' s (Lay folder file base) kept done = laid_kept folder.now file.now base o o' o'' e e' s kept done
+done_kept o o' o'' e e' s (Lay rsdp folder file base) kept done = lays_kept rsdp folder.now file.now base o o' o'' e e' s kept done
 done_kept o o' o'' e e' s (Loader folder to) kept done = loaded_kept folder.now to.now o o' o'' e e' s kept done
 done_kept o o' o'' e e' s (Diff first second) kept done = compared_kept first.now second.now o o' o'' e e' s kept done
 done_kept o o' o'' e e' s (Tree dot file) kept done = drawn_kept dot file.now o o' o'' e e' s kept done

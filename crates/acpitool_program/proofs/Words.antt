@@ -55,3 +55,14 @@ pub second_word : {A B : Type 0} (f : A → B) (xs : List A) (x : A) (t : B) →
 second_word f [] x t has is some = absurd (omega (arith, some))
 second_word f (a ∷ []) x t has is some = absurd (omega (arith, some))
 second_word f (a ∷ y ∷ ys) x t has is some = (f a, map f ys, ap (λ z. f a ∷ z ∷ map f ys) (ap f (sym is) ∙ sym has))
+
+-- the second word, and the words after it
+pub two_front : {A B : Type 0} (f : A → B) (xs : List A) (x : A) (t : B) → t ≡ f x → x ≡ get_or xs 1 x → 2 ≤ length xs
+    → (a : B) × (map f xs ≡ a ∷ t ∷ map f (take (length xs - 2) (drop 2 xs)))
+two_front f [] x t has is some = absurd (omega (arith, some))
+two_front f (a ∷ []) x t has is some = absurd (omega (arith, some))
+two_front f (a ∷ y ∷ ys) x t has is some = (
+  f a,
+  ap (λ z. f a ∷ z ∷ map f ys) (ap f (sym is) ∙ sym has)
+      ∙ ap (λ zs. f a ∷ t ∷ map f zs) (sym (take_all (length (a ∷ y ∷ ys) - 2) ys (omega arith))),
+)

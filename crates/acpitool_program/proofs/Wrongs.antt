@@ -1,8 +1,9 @@
 -- Words that are wrong ask for no command.
-use Rattle.std.proofs.Common.{◌≡◌, ◌≢◌, ◌⊎◌, ◌≤◌, ℕ, List, [], ◌∷◌, length, Some, None, refl, map, string_bytes, ap, sym, subst, ◌∙◌, inl, inr, arith, codes}
+use Rattle.std.proofs.Common.{◌≡◌, ◌≢◌, ◌⊎◌, ◌≤◌, ℕ, List, [], ◌∷◌, length, Option, Some, None, refl, map, string_bytes, ap, sym, subst, ◌∙◌, inl, inr, arith, codes}
+use Rattle.acpitool_program.proofs.Rests.{same_rest, no_pointer, no_address}
 use Rattle.acpitool_program.proofs.Verbs.{heads, tails, same_verb, no_version, no_help}
-use Rattle.acpitool_program.specs.Command.{word_of, first_option, after_option, files_after, unforced, IsAddress, AreImage, AreUnpack, AreLay, IsHelp, BeginsWithHelp, Asks, IsNoCommand}
-use Rattle.acpitool_program.specs.Command.{IsAfterBase, IsAfterFile, IsAfterUnpacked, IsNoUnpackBase, IsAfterLaid, IsNoLayBase, IsWrong}
+use Rattle.acpitool_program.specs.Command.{word_of, first_option, after_option, files_after, unforced, IsAddress, AreImage, AreUnpack, AreLay, IsRest, IsHelp, BeginsWithHelp, Asks, IsNoCommand}
+use Rattle.acpitool_program.specs.Command.{IsAfterBase, IsAfterFile, IsAfterUnpacked, IsNoUnpackBase, IsAfterLaid, HasLeft, IsNoLayBase, IsNoPointer, IsWrong}
 use Rattle.acpitool_program.specs.Laws.{WrongAskForNothing}
 use Rattle.acpitool_program.specs.declared.command.Command.{Command}
 use Rattle.acpitool_program.specs.declared.command.Command.TheVariants.{Help, Version, Show, Check, Image, Make, Template}
@@ -13,7 +14,7 @@ use Rattle.acpitool_program.specs.declared.command.Wrong.{Wrong}
 use Rattle.acpitool_program.specs.declared.command.Wrong.TheVariants.{NoCommand, Unknown, Placed, NoFile, NoFileToCheck, NoImage, NoText}
 use Rattle.acpitool_program.specs.declared.command.Wrong.TheVariants.{NoTable, Base, Number, Twice, NoSignature, Signature, NoBlock}
 use Rattle.acpitool_program.specs.declared.command.Wrong.TheVariants.{NoPacked, NoFolder, NoTables, NoArchive}
-use Rattle.acpitool_program.specs.declared.command.Wrong.TheVariants.{NoImageFile, NoBase, NoFirst, NoSecond, NoDrawing}
+use Rattle.acpitool_program.specs.declared.command.Wrong.TheVariants.{NoImageFile, NoBase, NoPointer, NoFirst, NoSecond, NoDrawing}
 
 -- ---- the words after a command
 
@@ -28,7 +29,9 @@ IsTaken verbs.Disassemble more = (file : List ℕ) × (numbers : List (List ℕ)
 IsTaken verbs.Names more = (file : List ℕ) × (numbers : List (List ℕ)) × (after_option verbs.Names more ≡ file ∷ numbers)
 IsTaken verbs.Unpack more = (file : List ℕ) × (folder : List ℕ) × (base : ℕ) × AreUnpack more file folder base
 IsTaken verbs.Cpio more = (folder : List ℕ) × (file : List ℕ) × (more ≡ folder ∷ file ∷ [])
-IsTaken verbs.Lay more = (folder : List ℕ) × (file : List ℕ) × (base : ℕ) × AreLay more folder file base
+IsTaken verbs.Lay more =
+    (rsdp : Option ℕ) × (rest : List (List ℕ)) × (folder : List ℕ) × (file : List ℕ) × (base : ℕ) × IsRest more rsdp rest
+    × AreLay rest folder file base
 IsTaken verbs.Loader more = (folder : List ℕ) × (to : List ℕ) × (more ≡ folder ∷ to ∷ [])
 IsTaken verbs.Tree more = (file : List ℕ) × (after_option verbs.Tree more ≡ file ∷ [])
 IsTaken verbs.Diff more = (first : List ℕ) × (second : List ℕ) × (more ≡ first ∷ second ∷ [])
@@ -95,8 +98,12 @@ asked words (Unpack file folder base) all =
     inr (inr (record { verb = verbs.Unpack; more = all.0; is = all.1.0; are = inr (all.1.1, (file.now, folder.now, base, all.2)) }))
 asked words (Cpio folder file) all =
     inr (inr (record { verb = verbs.Cpio; more = all.0; is = all.1.0; are = inr (all.1.1, (folder.now, file.now, all.2)) }))
-asked words (Lay folder file base) all =
-    inr (inr (record { verb = verbs.Lay; more = all.0; is = all.1.0; are = inr (all.1.1, (folder.now, file.now, base, all.2)) }))
+asked words (Lay rsdp folder file base) all = inr (inr (record {
+  verb = verbs.Lay;
+  more = all.0;
+  is = all.2.0;
+  are = inr (all.2.1, (rsdp, all.1, folder.now, file.now, base, all.3, all.4));
+}))
 asked words (Loader folder to) all =
     inr (inr (record { verb = verbs.Loader; more = all.0; is = all.1.0; are = inr (all.1.1, (folder.now, to.now, all.2)) }))
 asked words (Diff first second) all =
@@ -176,7 +183,13 @@ after_laid words word one = record {
   verb = verbs.Lay;
   more = one.more;
   is = one.after.0;
-  are = inr (one.after.1, λ taken. cc (one.is, taken.3.1));
+  are = inr (
+    one.after.1,
+    λ taken.
+        let rest = (same_rest one.more one.rest taken.1 one.rsdp taken.0 one.is_rest taken.5).1 in
+        let are = taken.6 in
+        cc (one.is, are.1, rest),
+  );
 }
 
 no_lay_base : (words : List (List ℕ)) (word : List ℕ) → IsNoLayBase words word → With Fails words
@@ -187,16 +200,40 @@ no_lay_base words word one = record {
   are = inr (
     one.after.1,
     λ taken.
-        let are = taken.3 in
-        let P : List ℕ → Type 0 = λ l. IsAddress l taken.2 in
-        let same : are.0 ≡ word = cc (one.is, are.1) in
-        one.not taken.2 (subst P same are.2),
+        let rest = (same_rest one.more one.rest taken.1 one.rsdp taken.0 one.is_rest taken.5).1 in
+        let are = taken.6 in
+        let P : List ℕ → Type 0 = λ l. IsAddress l taken.4 in
+        let same : are.0 ≡ word = cc (one.is, are.1, rest) in
+        one.not taken.4 (subst P same are.2),
   );
 }
 
 -- so many words, which `lay` doesn't take
-few_laid : (more : List (List ℕ)) → length more ≤ 2 → (folder file : List ℕ) (base : ℕ) → AreLay more folder file base → ⊥
-few_laid more few folder file base taken = let three = ap length taken.1 in absurd (omega (arith, few, three))
+few_laid : (words : List (List ℕ)) (count : ℕ) → count ≤ 2 → HasLeft words count → With Fails words
+few_laid words count few one = record {
+  verb = verbs.Lay;
+  more = one.more;
+  is = one.after.0;
+  are = inr (
+    one.after.1,
+    λ taken.
+        let same = ap length (same_rest one.more one.rest taken.1 one.rsdp taken.0 one.is_rest taken.5).1 in
+        let these = one.are in
+        let three = ap length taken.6.1 in
+        absurd (omega (arith, few, these, same, three)),
+  );
+}
+
+no_rsdp : (words : List (List ℕ)) (word : List ℕ) → IsNoPointer words word → With Fails words
+no_rsdp words word one = record {
+  verb = verbs.Lay;
+  more = one.more;
+  is = one.after.0;
+  are = inr (
+    one.after.1,
+    λ taken. no_address one.more taken.1 one.rest one.option word taken.0 one.is one.leads one.not taken.5,
+  );
+}
 
 after_file : (words : List (List ℕ)) (word : List ℕ) → IsAfterFile words word → With Fails words
 after_file words word one =
@@ -299,19 +336,14 @@ wronged words NoTables (inl is) =
     inr (inr (record { verb = verbs.Cpio; more = []; is = is; are = inr (refl, λ taken. cc (taken.2)) }))
 wronged words NoTables (inr (inr is)) =
     inr (inr (record { verb = verbs.Loader; more = []; is = is; are = inr (refl, λ taken. cc (taken.2)) }))
-wronged words NoTables (inr (inl is)) =
-    inr (inr (record { verb = verbs.Lay; more = []; is = is; are = inr (refl, λ taken. cc (taken.3.1)) }))
-wronged words NoImageFile all = inr (inr (record {
+wronged words NoTables (inr (inl left)) = inr (inr (few_laid words 0 (omega arith) left))
+wronged words NoImageFile left = inr (inr (few_laid words 1 (omega arith) left))
+wronged words NoBase left = inr (inr (few_laid words 2 (omega arith) left))
+wronged words NoPointer all = inr (inr (record {
   verb = verbs.Lay;
   more = all.0;
   is = all.1.0;
-  are = inr (all.1.1, λ taken. let one = all.2 in few_laid all.0 (omega (arith, one)) taken.0 taken.1 taken.2 taken.3);
-}))
-wronged words NoBase all = inr (inr (record {
-  verb = verbs.Lay;
-  more = all.0;
-  is = all.1.0;
-  are = inr (all.1.1, λ taken. let two = all.2 in few_laid all.0 (omega (arith, two)) taken.0 taken.1 taken.2 taken.3);
+  are = inr (all.1.1, λ taken. no_pointer all.0 taken.1 taken.0 all.2 all.3 taken.5);
 }))
 wronged words NoFirst is =
     inr (inr (record { verb = verbs.Diff; more = []; is = is; are = inr (refl, λ taken. cc (taken.2)) }))
@@ -340,7 +372,8 @@ wronged words (Base word) (inl one) = inr (inr (record {
   are = inr (one.after.1, λ taken. no_base (after_option verbs.Image one.more) one.file word.now taken.0 taken.1 one.is one.not taken.2);
 }))
 wronged words (Base word) (inr (inl one)) = inr (inr (no_unpack_base words word.now one))
-wronged words (Base word) (inr (inr one)) = inr (inr (no_lay_base words word.now one))
+wronged words (Base word) (inr (inr (inl one))) = inr (inr (no_lay_base words word.now one))
+wronged words (Base word) (inr (inr (inr one))) = inr (inr (no_rsdp words word.now one))
 wronged words (Number word) none = absurd none
 wronged words Twice none = absurd none
 

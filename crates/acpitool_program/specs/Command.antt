@@ -19,7 +19,8 @@ use Rattle.acpitool_program.specs.declared.command.Wrong.TheVariants.{NoCommand,
 use Rattle.acpitool_program.specs.declared.command.Wrong.TheVariants.{NoImage, NoText, NoTable, Base, Number, Twice, NoSignature}
 use Rattle.acpitool_program.specs.declared.command.Wrong.TheVariants.{Signature, NoBlock}
 use Rattle.acpitool_program.specs.declared.command.Wrong.TheVariants.{NoPacked, NoFolder, NoTables, NoArchive}
-use Rattle.acpitool_program.specs.declared.command.Wrong.TheVariants.{NoImageFile, NoBase, NoFirst, NoSecond, NoDrawing}
+use Rattle.acpitool_program.specs.declared.command.Wrong.TheVariants.{NoImageFile, NoBase, NoPointer}
+use Rattle.acpitool_program.specs.declared.command.Wrong.TheVariants.{NoFirst, NoSecond, NoDrawing}
 
 -- whether a word is an option: a dash and more
 abbrev pub is_option : List ℕ → Bool
@@ -46,6 +47,10 @@ is_bare word = bytes_eq word (codes "--no-offsets")
 abbrev pub is_dot : List ℕ → Bool
 is_dot word = bytes_eq word (codes "--dot")
 
+-- the option of `lay` before the address of an RSDP
+abbrev pub is_rsdp : List ℕ → Bool
+is_rsdp word = bytes_eq word (codes "--rsdp")
+
 -- whether a command takes an option right after its own word
 abbrev pub leads : Verb → List ℕ → Bool
 leads verbs.Show word = is_json word || is_bare word
@@ -53,6 +58,7 @@ leads verbs.Check word = is_json word
 leads verbs.Image word = is_json word
 leads verbs.Names word = is_json word
 leads verbs.Tree word = is_dot word
+leads verbs.Lay word = is_rsdp word
 leads verb word = false
 
 -- whether the first word after a command is one of these
@@ -67,6 +73,10 @@ begins_with_bare (word ∷ words) = is_bare word
 abbrev pub begins_with_dot : List (List ℕ) → Bool
 begins_with_dot [] = false
 begins_with_dot (word ∷ words) = is_dot word
+
+abbrev pub begins_with_rsdp : List (List ℕ) → Bool
+begins_with_rsdp [] = false
+begins_with_rsdp (word ∷ words) = is_rsdp word
 
 abbrev pub begins_with_option : Verb → List (List ℕ) → Bool
 begins_with_option verb [] = false
@@ -192,7 +202,13 @@ AreImage more file base =
 abbrev pub AreUnpack : List (List ℕ) → List ℕ → List ℕ → ℕ → Type 0
 AreUnpack more file folder base = (rest : List (List ℕ)) × (more ≡ file ∷ rest) × AreImage rest folder base
 
--- FOLDER FILE BASE after `lay`
+-- the words after `lay`, or after `lay --rsdp ADDRESS`
+abbrev pub IsRest : List (List ℕ) → Option ℕ → List (List ℕ) → Type 0
+IsRest more None rest = (begins_with_rsdp more ≡ false) × (more ≡ rest)
+IsRest more (Some rsdp) rest =
+    (option : List ℕ) × (word : List ℕ) × (more ≡ option ∷ word ∷ rest) × (is_rsdp option ≡ true) × IsAddress word rsdp
+
+-- FOLDER FILE BASE after these
 abbrev pub AreLay : List (List ℕ) → List ℕ → List ℕ → ℕ → Type 0
 AreLay more folder file base = (word : List ℕ) × (more ≡ folder ∷ file ∷ word ∷ []) × IsAddress word base
 
@@ -239,8 +255,9 @@ Asks words (Names json file numbers) =
 Asks words (Unpack file folder base) =
     (more : List (List ℕ)) × AreAfter verbs.Unpack words more × AreUnpack more file.now folder.now base
 Asks words (Cpio folder file) = (more : List (List ℕ)) × AreAfter verbs.Cpio words more × (more ≡ folder.now ∷ file.now ∷ [])
-Asks words (Lay folder file base) =
-    (more : List (List ℕ)) × AreAfter verbs.Lay words more × AreLay more folder.now file.now base
+Asks words (Lay rsdp folder file base) =
+    (more : List (List ℕ)) × (rest : List (List ℕ)) × AreAfter verbs.Lay words more × IsRest more rsdp rest
+    × AreLay rest folder.now file.now base
 Asks words (Loader folder to) = (more : List (List ℕ)) × AreAfter verbs.Loader words more × (more ≡ folder.now ∷ to.now ∷ [])
 Asks words (Diff first second) =
     (more : List (List ℕ)) × AreAfter verbs.Diff words more × (more ≡ first.now ∷ second.now ∷ [])
@@ -333,11 +350,23 @@ pub record IsAfterArchive (words : List (List ℕ)) (word : List ℕ) : Type 0 w
 pub record IsAfterLaid (words : List (List ℕ)) (word : List ℕ) : Type 0 where
   pub more : List (List ℕ)
   pub after : AreAfter verbs.Lay words more
+  pub rsdp : Option ℕ
+  pub rest : List (List ℕ)
+  pub is_rest : IsRest more rsdp rest
   pub folder : List ℕ
   pub file : List ℕ
   pub base : List ℕ
   pub others : List (List ℕ)
-  pub is : more ≡ folder ∷ file ∷ base ∷ word ∷ others
+  pub is : rest ≡ folder ∷ file ∷ base ∷ word ∷ others
+
+-- so many words after `lay` or `lay --rsdp ADDRESS`
+pub record HasLeft (words : List (List ℕ)) (count : ℕ) : Type 0 where
+  pub more : List (List ℕ)
+  pub after : AreAfter verbs.Lay words more
+  pub rsdp : Option ℕ
+  pub rest : List (List ℕ)
+  pub is_rest : IsRest more rsdp rest
+  pub are : length rest ≡ count
 
 -- a word after `loader FOLDER OUT`
 pub record IsAfterLoaded (words : List (List ℕ)) (word : List ℕ) : Type 0 where
@@ -369,9 +398,22 @@ pub record IsAfterDrawn (words : List (List ℕ)) (word : List ℕ) : Type 0 whe
 pub record IsNoLayBase (words : List (List ℕ)) (word : List ℕ) : Type 0 where
   pub more : List (List ℕ)
   pub after : AreAfter verbs.Lay words more
+  pub rsdp : Option ℕ
+  pub rest : List (List ℕ)
+  pub is_rest : IsRest more rsdp rest
   pub folder : List ℕ
   pub file : List ℕ
-  pub is : more ≡ folder ∷ file ∷ word ∷ []
+  pub is : rest ≡ folder ∷ file ∷ word ∷ []
+  pub not : (base : ℕ) → ¬ IsAddress word base
+
+-- the word after `lay --rsdp` isn't an address
+pub record IsNoPointer (words : List (List ℕ)) (word : List ℕ) : Type 0 where
+  pub more : List (List ℕ)
+  pub after : AreAfter verbs.Lay words more
+  pub option : List ℕ
+  pub rest : List (List ℕ)
+  pub is : more ≡ option ∷ word ∷ rest
+  pub leads : is_rsdp option ≡ true
   pub not : (base : ℕ) → ¬ IsAddress word base
 
 -- the word in the place of BASE after `unpack` isn't an address
@@ -418,14 +460,17 @@ IsWrong words NoFolder =
     ((more : List (List ℕ)) × AreAfter verbs.Unpack words more × (length more ≡ 1))
     ⊎ ((more : List (List ℕ)) × AreAfter verbs.Loader words more × (length more ≡ 1))
 IsWrong words NoTables =
-    (words ≡ codes "cpio" ∷ []) ⊎ (words ≡ codes "lay" ∷ []) ⊎ (words ≡ codes "loader" ∷ [])
+    (words ≡ codes "cpio" ∷ []) ⊎ HasLeft words 0 ⊎ (words ≡ codes "loader" ∷ [])
 IsWrong words NoArchive = (more : List (List ℕ)) × AreAfter verbs.Cpio words more × (length more ≡ 1)
-IsWrong words NoImageFile = (more : List (List ℕ)) × AreAfter verbs.Lay words more × (length more ≡ 1)
-IsWrong words NoBase = (more : List (List ℕ)) × AreAfter verbs.Lay words more × (length more ≡ 2)
+IsWrong words NoImageFile = HasLeft words 1
+IsWrong words NoBase = HasLeft words 2
+IsWrong words NoPointer =
+    (more : List (List ℕ)) × AreAfter verbs.Lay words more × (begins_with_rsdp more ≡ true) × (length more ≡ 1)
 IsWrong words NoFirst = words ≡ codes "diff" ∷ []
 IsWrong words NoSecond = (more : List (List ℕ)) × AreAfter verbs.Diff words more × (length more ≡ 1)
 IsWrong words NoDrawing =
     (more : List (List ℕ)) × AreAfter verbs.Tree words more × (length (after_option verbs.Tree more) ≡ 0)
-IsWrong words (Base word) = IsNoBase words word.now ⊎ IsNoUnpackBase words word.now ⊎ IsNoLayBase words word.now
+IsWrong words (Base word) =
+    IsNoBase words word.now ⊎ IsNoUnpackBase words word.now ⊎ IsNoLayBase words word.now ⊎ IsNoPointer words word.now
 IsWrong words (Number word) = ⊥
 IsWrong words Twice = ⊥

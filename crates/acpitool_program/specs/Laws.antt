@@ -1,13 +1,13 @@
 -- What laws say.
-use Rattle.std.specs.Prelude.{◌≡◌, ℕ, Bool, true, false, List, [], ◌∷◌, map, string_bytes, codes}
+use Rattle.std.specs.Prelude.{◌≡◌, ℕ, Bool, true, false, List, [], ◌∷◌, ◌++◌, Option, Some, None, map, string_bytes, codes}
 use Rattle.acpitool_program.specs.Command.{Asks, IsWrong}
 use Rattle.acpitool_program.specs.declared.command.Command.{Command}
 use Rattle.acpitool_program.specs.declared.command.Command.TheVariants.{Help, Version, Show, Check, Image, Make, Template}
 use Rattle.acpitool_program.specs.declared.command.Command.TheVariants.{Disassemble, Names, Unpack, Cpio, Lay, Loader, Diff, Json, Tree}
 use Rattle.acpitool_program.specs.declared.command.Wrong.{Wrong}
 
--- what a command contains: its word, its files, folders or signature, the words that state numbers, an address, and its option
--- or nothing
+-- what a command contains: its word, its files, folders or signature, the words that state numbers, an address, and its option,
+-- with an address of the option's own, or nothing
 abbrev pub Content : Type 0
 Content = List ℕ × List (List ℕ) × List (List ℕ) × ℕ × List ℕ
 
@@ -15,6 +15,11 @@ Content = List ℕ × List (List ℕ) × List (List ℕ) × ℕ × List ℕ
 abbrev pub option_if : Bool → List ℕ → List ℕ
 option_if true option = option
 option_if false option = []
+
+-- the option before the address of an RSDP, and the address after its bytes
+abbrev pub rsdp_if : Option ℕ → List ℕ
+rsdp_if (Some rsdp) = codes "--rsdp" ++ rsdp ∷ []
+rsdp_if None = []
 
 abbrev pub content : Command → Content
 content Help = (codes "help", [], [], 0, [])
@@ -42,7 +47,7 @@ content (Names json file numbers) = (
 content (Make force text file) = (codes "make", text.now ∷ file.now ∷ [], [], 0, option_if force (codes "--force"))
 content (Unpack file folder base) = (codes "unpack", file.now ∷ folder.now ∷ [], [], base, [])
 content (Cpio folder file) = (codes "cpio", folder.now ∷ file.now ∷ [], [], 0, [])
-content (Lay folder file base) = (codes "lay", folder.now ∷ file.now ∷ [], [], base, [])
+content (Lay rsdp folder file base) = (codes "lay", folder.now ∷ file.now ∷ [], [], base, rsdp_if rsdp)
 content (Loader folder to) = (codes "loader", folder.now ∷ to.now ∷ [], [], 0, [])
 content (Tree dot file) = (codes "tree", file.now ∷ [], [], 0, option_if dot (codes "--dot"))
 content (Diff first second) = (codes "diff", first.now ∷ second.now ∷ [], [], 0, [])

@@ -16,8 +16,10 @@ pub mod Object
 pub mod Unpacking
 pub mod Archiving
 pub mod Laying
+pub mod Apart
 pub mod Loading
 pub mod Comparing
+pub mod Compiling
 pub mod Machine
 pub mod Outcome
 pub mod Checking

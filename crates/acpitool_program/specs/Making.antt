@@ -8,6 +8,8 @@ use Rattle.acpi_make.specs.declared.fault.Fault as texts
 use Rattle.acpi_make.specs.declared.fault.MakeError.TheVariants as errors
 use Rattle.acpi_make.specs.declared.make.Made.{Made}
 use Rattle.acpi_make.specs.declared.extent.Own.{Own}
+use Rattle.acpi_compile.specs.Compiled.{is_asl}
+use Rattle.acpitool_program.specs.Compiling.{CompiledOrNot}
 use Rattle.acpitool_program.specs.Hint.{meant_in, hint}
 use Rattle.acpitool_program.specs.Listing.{NotRead}
 use Rattle.acpitool_program.specs.Outcome.{fault_line}
@@ -119,11 +121,31 @@ pub record NoTable (force : Bool) (name text : List ℕ) (out out' err err' : Op
   pub silent : Keeps out out'
   pub is : status ≡ 1
 
--- what comes of a text
+-- the text is made into a definition block, and its bytes are written
+pub record MadeBlock (name text file : List ℕ) (out out' err err' : Option (List ℕ)) (status : ℕ) : Type 0 where
+  pub bytes : List ℕ
+  pub between : Option (List ℕ)
+  pub compiled : CompiledOrNot name text (Some bytes) err between
+  pub wrote : IsWritten bytes file out out' between err' status
+
+-- no block is written
+pub record NoBlock (name text : List ℕ) (out out' err err' : Option (List ℕ)) (status : ℕ) : Type 0 where
+  pub not : CompiledOrNot name text None err err'
+  pub silent : Keeps out out'
+  pub is : status ≡ 1
+
+-- what comes of a text, which is ASL or not
+abbrev pub MakesOf : Bool → Bool → List ℕ → List ℕ → List ℕ
+    → Option (List ℕ) → Option (List ℕ) → Option (List ℕ) → Option (List ℕ) → ℕ → Type 0
+MakesOf true force name text file out out' err err' status =
+    MadeBlock name text file out out' err err' status ⊎ NoBlock name text out out' err err' status
+MakesOf false force name text file out out' err err' status =
+    MadeFile force name text file out out' err err' status ⊎ NoTable force name text out out' err err' status
+
 abbrev pub MakesText : Bool → List ℕ → List ℕ → List ℕ
     → Option (List ℕ) → Option (List ℕ) → Option (List ℕ) → Option (List ℕ) → ℕ → Type 0
 MakesText force name text file out out' err err' status =
-    MadeFile force name text file out out' err err' status ⊎ NoTable force name text out out' err err' status
+    MakesOf (is_asl text) force name text file out out' err err' status
 
 -- the system says which text is in a file, or it can't be read and a line says why
 abbrev pub MakesWord : Bool → List ℕ → List ℕ → Option (List ℕ) → Option (List ℕ) → Option (List ℕ) → Option (List ℕ) → ℕ → Type 0

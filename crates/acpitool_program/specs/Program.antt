@@ -9,6 +9,7 @@ use Rattle.acpi_forms.specs.Known.{is_known, meant}
 use Rattle.acpi_forms.specs.Makes.{IsTemplateOf}
 use Rattle.acpi_input.specs.Stated.{stated}
 use Rattle.acpitool_program.specs.Command.{Asks, IsWrong, IsMisstated, files_in}
+use Rattle.acpitool_program.specs.Apart.{LaysApart}
 use Rattle.acpitool_program.specs.Archiving.{Archives}
 use Rattle.acpitool_program.specs.Checking.{AreChecked}
 use Rattle.acpitool_program.specs.Comparing.{Compares}
@@ -34,7 +35,8 @@ use Rattle.acpitool_program.specs.declared.command.Wrong.TheVariants.{NoCommand,
 use Rattle.acpitool_program.specs.declared.command.Wrong.TheVariants.{NoImage, NoText, NoTable, Base, Number, Twice, NoSignature}
 use Rattle.acpitool_program.specs.declared.command.Wrong.TheVariants.{Signature, NoBlock}
 use Rattle.acpitool_program.specs.declared.command.Wrong.TheVariants.{NoPacked, NoFolder, NoTables, NoArchive}
-use Rattle.acpitool_program.specs.declared.command.Wrong.TheVariants.{NoImageFile, NoBase, NoFirst, NoSecond, NoDrawing}
+use Rattle.acpitool_program.specs.declared.command.Wrong.TheVariants.{NoImageFile, NoBase, NoPointer}
+use Rattle.acpitool_program.specs.declared.command.Wrong.TheVariants.{NoFirst, NoSecond, NoDrawing}
 
 -- ---- how the program is used
 
@@ -45,7 +47,8 @@ usage =
     ++ codes " | disassemble FILE .. [NAME=N ..] | names [--json] FILE .. [NAME=N ..]"
     ++ codes " | image [--json] FILE [BASE]"
     ++ codes " | make [--force] TEXT FILE | template SIGNATURE"
-    ++ codes " | unpack FILE FOLDER [BASE] | cpio FOLDER FILE | lay FOLDER FILE BASE | loader FOLDER OUT"
+    ++ codes " | unpack FILE FOLDER [BASE] | cpio FOLDER FILE | lay [--rsdp ADDRESS] FOLDER FILE BASE"
+    ++ codes " | loader FOLDER OUT"
     ++ codes " | tree [--dot] FILE | --help | --version\n"
 
 abbrev pub version : List ℕ
@@ -69,6 +72,7 @@ wrong_line NoTables = codes "acpitool: no folder with tables\n"
 wrong_line NoArchive = codes "acpitool: no file for the archive\n"
 wrong_line NoImageFile = codes "acpitool: no file for the image\n"
 wrong_line NoBase = codes "acpitool: no address for the image\n"
+wrong_line NoPointer = codes "acpitool: no address for the RSDP\n"
 wrong_line NoFirst = codes "acpitool: no files to compare\n"
 wrong_line NoSecond = codes "acpitool: no second file to compare\n"
 wrong_line NoDrawing = codes "acpitool: no file to draw\n"
@@ -178,6 +182,14 @@ IsTemplated true signature out out' err err' status =
 IsTemplated false signature out out' err err' status =
     (status ≡ 1) × Keeps out out' × Appends err err' (unknown_line signature)
 
+-- ---- lay
+
+-- the image has an RSDP of its own, or there is one at an address apart from it
+abbrev pub Lays : Option ℕ → List ℕ → List ℕ → ℕ
+    → Option (List ℕ) → Option (List ℕ) → Option (List ℕ) → Option (List ℕ) → ℕ → Type 0
+Lays None folder file base out out' err err' status = LaysFolder folder file base out out' err err' status
+Lays (Some rsdp) folder file base out out' err err' status = LaysApart folder file base rsdp out out' err err' status
+
 -- ---- all commands
 
 -- what a command prints: the usage and more, the version, or what comes of tables and files
@@ -200,7 +212,7 @@ IsDone (Names json file numbers) out out' err err' status =
     IsBlockShown (names_text json) file.now (map (λ word. string_bytes word) numbers.now) out out' err err' status
 IsDone (Unpack file folder base) out out' err err' status = Unpacks file.now folder.now base out out' err err' status
 IsDone (Cpio folder file) out out' err err' status = Archives folder.now file.now out out' err err' status
-IsDone (Lay folder file base) out out' err err' status = LaysFolder folder.now file.now base out out' err err' status
+IsDone (Lay rsdp folder file base) out out' err err' status = Lays rsdp folder.now file.now base out out' err err' status
 IsDone (Loader folder to) out out' err err' status = LoadsFolder folder.now to.now out out' err err' status
 IsDone (Diff first second) out out' err err' status = Compares first.now second.now out out' err err' status
 IsDone (Tree dot file) out out' err err' status = Draws dot file.now out out' err err' status

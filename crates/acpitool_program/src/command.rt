@@ -2,11 +2,12 @@
 
 ghost use Rattle.std.specs.Prelude.{◌≡◌, ℕ, ◌≤◌, length, nat_eq, if◌then◌else◌, List, ◌∷◌, map, drop, string_bytes, codes};
 ghost use Rattle.std.specs.List.{slice_get};
-ghost use Rattle.std.specs.Prelude.{MatchResult, MatchOption, IfOk, None, Some};
+ghost use Rattle.std.specs.Prelude.{MatchResult, MatchOption, IfOk, None, Some, true};
 ghost use Rattle.std.specs.List.{starts_with};
 ghost use Rattle.acpi_input.specs.Stated.{stated};
 ghost use Rattle.acpitool_program.specs.Command.{is_option, is_force, is_json, is_bare, is_dot, leads, begins_with_json};
-ghost use Rattle.acpitool_program.specs.Command.{begins_with_bare, begins_with_dot, begins_with_option, after_option, takes, option_in};
+ghost use Rattle.acpitool_program.specs.Command.{begins_with_bare, begins_with_dot, begins_with_rsdp, begins_with_option};
+ghost use Rattle.acpitool_program.specs.Command.{after_option, takes, option_in, is_rsdp, AreAfter, IsRest};
 ghost use Rattle.acpitool_program.specs.Command.{first_option, forces, unforced, has, is_number};
 ghost use Rattle.acpitool_program.specs.Command.{files_in, first_unstated, IsMisstated};
 ghost use Rattle.acpitool_program.specs.Command.{word_of, IsAddress, Asks, IsWrong};
@@ -50,9 +51,10 @@ pub enum Command<'a> {
     /// `cpio FOLDER FILE`: the archive from which Linux takes the tables of a folder, to a file, or to standard output where the
     /// word is `-`.
     Cpio(&'a str, &'a str),
-    /// `lay FOLDER FILE BASE`: the image of the tables of a folder, which begins at the physical address BASE in hexadecimal, to
-    /// a file, or to standard output where the word is `-`.
-    Lay(&'a str, &'a str, u64),
+    /// `lay [--rsdp ADDRESS] FOLDER FILE BASE`: the image of the tables of a folder, which begins at the physical address BASE in
+    /// hexadecimal, to a file, or to standard output where the word is `-`. ADDRESS is that of an RSDP apart from the image, if
+    /// it is there.
+    Lay(Option<u64>, &'a str, &'a str, u64),
     /// `loader FOLDER OUT`: the files that QEMU hands to firmware, of the tables of a folder, to new files of another folder.
     Loader(&'a str, &'a str),
     /// `diff FILE FILE`: the fields in which the tables in two files differ, or on standard input where a word is `-`.
@@ -115,6 +117,8 @@ pub enum Wrong<'a> {
     NoImageFile,
     /// `lay` has no address.
     NoBase,
+    /// `lay --rsdp` has no address.
+    NoPointer,
     /// `diff` has no file.
     NoFirst,
     /// `diff` has no second file.
@@ -189,6 +193,13 @@ fn is_dot(word: &str) -> bool
     word == "--dot"
 }
 
+// Returns whether a word is `--rsdp`.
+fn is_rsdp(word: &str) -> bool
+    ensures { result ≡ is_rsdp word.now }
+{
+    word == "--rsdp"
+}
+
 // Returns whether the first word is `--json`.
 fn begins_with_json(words: &[String]) -> bool
     ensures { result ≡ begins_with_json (map (λ word. string_bytes word) words.now) }
@@ -219,6 +230,16 @@ fn begins_with_dot(words: &[String]) -> bool
     }
 }
 
+// Returns whether the first word is `--rsdp`.
+fn begins_with_rsdp(words: &[String]) -> bool
+    ensures { result ≡ begins_with_rsdp (map (λ word. string_bytes word) words.now) }
+{
+    match words {
+        [] => false,
+        [word, ..] => is_rsdp(word.as_str()),
+    }
+}
+
 // Returns whether a word is an option that a command takes right after its own word.
 fn leads(verb: Verb, word: &str) -> bool
     ensures { result ≡ leads verb word.now }
@@ -227,8 +248,9 @@ fn leads(verb: Verb, word: &str) -> bool
         Verb::Show => is_json(word) || is_bare(word),
         Verb::Check | Verb::Image | Verb::Names => is_json(word),
         Verb::Tree => is_dot(word),
+        Verb::Lay => is_rsdp(word),
         Verb::Make | Verb::Template | Verb::Disassemble => false,
-        Verb::Unpack | Verb::Cpio | Verb::Lay => false,
+        Verb::Unpack | Verb::Cpio => false,
         Verb::Loader | Verb::Diff => false,
     }
 }
@@ -550,11 +572,10 @@ fn cpio(words: &[String]) -> Result<Command<'_>, Wrong<'_>>
     }
 }
 
-// Returns what `lay` and these words, which aren't options, ask for.
-fn lay(words: &[String]) -> Result<Command<'_>, Wrong<'_>>
-    requires { first_option verbs.Lay (map (λ word. string_bytes word) words.now) ≡ None }
-    ensures { (all : List (List ℕ)) → all ≡ codes "lay" ∷ map (λ word. string_bytes word) words.now
-        → MatchResult result (Asks all) (IsWrong all) }
+// Returns what `lay` and these words after `--rsdp` and an address, or after its own word, ask for.
+fn laid(rsdp: Option<u64>, words: &[String]) -> Result<Command<'_>, Wrong<'_>>
+    ensures { (all more : List (List ℕ)) → AreAfter verbs.Lay all more
+        → IsRest more rsdp (map (λ word. string_bytes word) words.now) → MatchResult result (Asks all) (IsWrong all) }
 {
     match words {
         [] => Err(Wrong::NoTables),
@@ -563,11 +584,42 @@ fn lay(words: &[String]) -> Result<Command<'_>, Wrong<'_>>
         [folder, file, base] => {
             let word = base.as_str();
             match address_of(word) {
-                Some(address) => Ok(Command::Lay(folder.as_str(), file.as_str(), address)),
+                Some(address) => Ok(Command::Lay(rsdp, folder.as_str(), file.as_str(), address)),
                 None => Err(Wrong::Base(word)),
             }
         }
         [_, _, _, extra, ..] => Err(Wrong::Unknown(extra.as_str())),
+    }
+}
+
+// Returns what `lay` and these words, which begin with `--rsdp`, ask for.
+fn laid_apart(words: &[String]) -> Result<Command<'_>, Wrong<'_>>
+    requires first { begins_with_rsdp (map (λ word. string_bytes word) words.now) ≡ true }
+    ensures { (all : List (List ℕ)) → AreAfter verbs.Lay all (map (λ word. string_bytes word) words.now)
+        → MatchResult result (Asks all) (IsWrong all) }
+{
+    match words {
+        [] | [_] => Err(Wrong::NoPointer),
+        [_, address, rest @ ..] => {
+            let word = address.as_str();
+            match address_of(word) {
+                Some(rsdp) => laid(Some(rsdp), rest),
+                None => Err(Wrong::Base(word)),
+            }
+        }
+    }
+}
+
+// Returns what `lay` and these words, which aren't options but `--rsdp`, ask for.
+fn lay(words: &[String]) -> Result<Command<'_>, Wrong<'_>>
+    requires { first_option verbs.Lay (map (λ word. string_bytes word) words.now) ≡ None }
+    ensures { (all : List (List ℕ)) → all ≡ codes "lay" ∷ map (λ word. string_bytes word) words.now
+        → MatchResult result (Asks all) (IsWrong all) }
+{
+    if begins_with_rsdp(words) {
+        laid_apart(words)
+    } else {
+        laid(None, words)
     }
 }
 

@@ -236,7 +236,7 @@ fn compare_with<R: Files + Input, O: Write, E: Write>(
 /// Prints a line for each field in which the tables in two files differ, or on standard input where the word is `-`: by the form
 /// of their signature, and by their structures. A line says if only bytes that the form has no name for differ, or if the
 /// signatures do. The status is 0 if the files have the same bytes, and then nothing is printed; 1 if they differ, or if one
-/// isn't a table, an RSDP or a FACS by its signature, which a line on `err` says; and 2 if a file can't be read.
+/// isn't what its signature says, which a line on `err` says; and 2 if a file can't be read.
 pub fn compare_files<R: Files + Input, O: Write, E: Write>(
     rt: &R,
     alloc: Global,

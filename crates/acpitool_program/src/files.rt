@@ -52,7 +52,8 @@ pub fn is_there<R: Files>(rt: &R, path: &str) -> bool {
     fs::metadata(rt, path).is_ok()
 }
 
-/// Returns the paths of a folder's files, in the order of their names.
+/// Returns the paths of a folder's files, in the order of their names. Folders in it aren't among them. A folder without files is
+/// an error.
 pub fn files_in<R: Files + AllocGlobal + Clone + Drop>(
     rt: &R,
     alloc: Global,
@@ -64,6 +65,9 @@ pub fn files_in<R: Files + AllocGlobal + Clone + Drop>(
         if !is_folder(rt, entry.path().as_str()) {
             paths.push(String::from_str(alloc, entry.path().as_str())?)?;
         }
+    }
+    if paths.is_empty() {
+        return Err(Error::new(ErrorKind::NotFound, "no files in this folder"));
     }
     paths.sort()?;
     Ok(paths)

@@ -11,17 +11,17 @@ use std::io::Write;
 const USAGE: &str = "\
 usage: acpitool show [--no-offsets] FILE .. [NAME=N ..] | show --json FILE .. | check [--json] FILE .. | diff FILE FILE \
 | disassemble FILE .. [NAME=N ..] | names [--json] FILE .. [NAME=N ..] | image [--json] FILE [BASE] \
-| make [--force] TEXT FILE | template SIGNATURE | unpack FILE FOLDER [BASE] | cpio FOLDER FILE | lay FOLDER FILE BASE \
-| loader FOLDER OUT | tree [--dot] FILE | --help | --version
+| make [--force] TEXT FILE | template SIGNATURE | unpack FILE FOLDER [BASE] | cpio FOLDER FILE \
+| lay [--rsdp ADDRESS] FOLDER FILE BASE | loader FOLDER OUT | tree [--dot] FILE | --help | --version
 ";
 
 // What `--help`, `-h` and `help` print after the usage.
 const HELP: &str = "
 show prints each table field by field: the offset, the name and the value of each field, and what the value
 means. The text has all bytes of the table. A FILE is a table, an RSDP, a FACS, a CDAT, an S3PT, a dump of tables as
-text (of acpidump), or a folder of such files; - is standard input. FILE@BASE stands for all tables of the image in
-FILE, which begins at the physical address BASE in hexadecimal, as image finds them; a file of this whole name comes
-first.
+text (of acpidump), or a folder of such files, in which folders are skipped; - is standard input. FILE@BASE stands for
+all tables of the image in FILE, which begins at the physical address BASE in hexadecimal, as image finds them; a file
+of this whole name comes first.
 The terms of a definition block follow as comments.
 NAME=N states how many arguments calls of NAME have. Calls of other names have as many as the table states for
 the method of this name, or else none. With --no-offsets right after it, show leaves out the offsets at the front of
@@ -62,7 +62,9 @@ Question marks are worked out: the length, the checksum, and how long, how many 
 are. Other numbers stay as they are. A line says of a wrong length, count or checksum which would be right, and
 the table isn't written; with --force it is. As TEXT, - is standard input, and as FILE, standard output. TEXT
 and FILE may not be the same file. A regular FILE is replaced as a whole by FILE.part, which may not be there
-before. A device, a pipe or a link stays what it is, and takes the bytes.
+before. A device, a pipe or a link stays what it is, and takes the bytes. Of a text of ASL, as disassemble prints it,
+changed or written by hand in the same form, make writes the definition block. Its ASL is this text, and else a line
+says which word of the text would be another.
 
 template prints such a text of a table: all fields, mostly with zeros, and one structure of each kind. It knows
 the signatures that show knows by name, such as APIC, the MADT's. That of the RSDP is 'RSD '.
@@ -81,7 +83,8 @@ one the DSDT, and one the FACS, which may be missing if the FADT has the flag HW
 an XSDT of its own, so those of FOLDER aren't laid, nor is an RSDT. Of the tables only the FADT is changed: it points to
 the FACS and the DSDT. Tables are laid in the order of their files' names. A line has the address of the RSDP. As FILE, -
 is standard output, and the line goes to standard error; a regular FILE is replaced as make does it, unless it is one of
-the tables.
+the tables. With --rsdp the RSDP is for ADDRESS in hexadecimal, a multiple of 0x10 such as e0000, and not in FILE: FILE.rsdp
+has its bytes, which FILE would else have at its end.
 
 loader writes the files by which QEMU hands the tables of FOLDER to firmware: OUT/etc/acpi/tables, OUT/etc/acpi/rsdp and
 OUT/etc/table-loader. The tables are laid as lay does it, without addresses. The last file has the commands by which
@@ -144,6 +147,7 @@ fn print_wrong<E: Write>(wrong: &Wrong<'_>, err: &mut E) -> io::Result<()>
         Wrong::NoArchive => err.write_all(b"acpitool: no file for the archive\n"),
         Wrong::NoImageFile => err.write_all(b"acpitool: no file for the image\n"),
         Wrong::NoBase => err.write_all(b"acpitool: no address for the image\n"),
+        Wrong::NoPointer => err.write_all(b"acpitool: no address for the RSDP\n"),
         Wrong::NoFirst => err.write_all(b"acpitool: no files to compare\n"),
         Wrong::NoSecond => err.write_all(b"acpitool: no second file to compare\n"),
         Wrong::NoDrawing => err.write_all(b"acpitool: no file to draw\n"),

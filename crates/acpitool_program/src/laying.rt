@@ -147,7 +147,7 @@ pub(crate) fn read_files<R: Files, E: Write>(
 }
 
 // Returns whether one of the paths is this one.
-fn has_path(file: &str, paths: &[String]) -> bool
+pub(crate) fn has_path(file: &str, paths: &[String]) -> bool
     ensures { result ≡ has_path file.now (map (λ path. string_bytes path) paths.now) }
 {
     'paths: for path in paths {
@@ -159,7 +159,7 @@ fn has_path(file: &str, paths: &[String]) -> bool
 }
 
 // Prints that an image would replace a table, and returns 1.
-fn tell_replaced<E: Write>(file: &str, err: &mut E) -> io::Result<u8>
+pub(crate) fn tell_replaced<E: Write>(file: &str, err: &mut E) -> io::Result<u8>
     ensures { IfOk result (λ status. (status ≡ 1)
         × Appends (E.contents err.old) (E.contents err.new) (replaced_line file.now)) }
 {
@@ -270,7 +270,7 @@ fn image_of_folder<R: Files + AllocGlobal + Clone + Drop, E: Write>(
 }
 
 // Prints the address of an image's RSDP.
-fn tell_rsdp<W: Write>(address: u64, out: &mut W) -> io::Result<()>
+pub(crate) fn tell_rsdp<W: Write>(address: u64, out: &mut W) -> io::Result<()>
     ensures { OnOk result (Appends (W.contents out.old) (W.contents out.new) (rsdp_line address)) }
 {
     writeln!(out, "RSDP at 0x{address:x}")

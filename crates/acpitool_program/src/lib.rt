@@ -1,12 +1,14 @@
 //! The program `acpitool` without its arguments and its exit.
 #![tactic(auto)]
 
+pub mod apart;
 pub mod archiving;
 pub mod check;
 pub mod checked;
 pub mod checking;
 pub mod command;
 pub mod comparing;
+pub mod compiling;
 pub mod complaint;
 pub mod disassembly;
 pub mod drawing;

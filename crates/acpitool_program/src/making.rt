@@ -6,14 +6,16 @@ ghost use Rattle.std.specs.Option.{option_map};
 ghost use Rattle.std.specs.Io.KnownBytes.{Appends};
 ghost use Rattle.acpitool_program.specs.Making.{note, notes, IsChecked, warnings, held_line, IsJudged, same_line};
 ghost use Rattle.acpitool_program.specs.Making.{not_made, MadeOrNot, Saved, NotSaved};
-ghost use Rattle.acpitool_program.specs.Making.{IsWritten, MakesText, MakesWord, Makes};
+ghost use Rattle.acpitool_program.specs.Making.{IsWritten, MakesOf, MakesText, MakesWord, Makes};
 
+use crate::compiling::compile_text;
 use crate::complaint::complain;
 use crate::fault::Fault;
 use crate::files::{read_word, write_file};
 use crate::hint::{meant_in, push_hint};
 use crate::outcome::{tell_fault, tell_unread};
 use crate::structures::wrong_with;
+use acpi_compile::block::is_asl;
 use acpi_forms::make::make;
 use acpi_make::extent::Own;
 use acpi_make::fault::{Fault as TextFault, MakeError};
@@ -229,7 +231,43 @@ pub fn write_table<R: Files, O: Write, E: Write>(
     }
 }
 
-// Makes a text into a table, and writes it. A table whose numbers are wrong is only written by force.
+// Makes a text of fields into a table, and writes it. A table whose numbers are wrong is only written by force.
+fn make_table<R: Files, O: Write, E: Write>(
+    rt: &R,
+    alloc: Global,
+    making: &Making<'_>,
+    text: &[u8],
+    out: &mut O,
+    err: &mut E,
+) -> io::Result<u8>
+    ensures { IfOk result (λ status. MakesOf false making.now.force making.now.name.now text.now making.now.file.now
+        (O.contents out.old) (O.contents out.new) (E.contents err.old) (E.contents err.new) status) }
+{
+    match make_text(alloc, making.force, making.name, text, err)? {
+        Some(bytes) => write_table(rt, alloc, &bytes, making.file, out, err),
+        None => Ok(1),
+    }
+}
+
+// Makes a text of ASL into a definition block, and writes it.
+fn make_block<R: Files, O: Write, E: Write>(
+    rt: &R,
+    alloc: Global,
+    making: &Making<'_>,
+    text: &[u8],
+    out: &mut O,
+    err: &mut E,
+) -> io::Result<u8>
+    ensures { IfOk result (λ status. MakesOf true making.now.force making.now.name.now text.now making.now.file.now
+        (O.contents out.old) (O.contents out.new) (E.contents err.old) (E.contents err.new) status) }
+{
+    match compile_text(alloc, making.name, text, err)? {
+        Some(bytes) => write_table(rt, alloc, &bytes, making.file, out, err),
+        None => Ok(1),
+    }
+}
+
+// Makes a text of fields or of ASL into a table, and writes it.
 fn make_bytes<R: Files, O: Write, E: Write>(
     rt: &R,
     alloc: Global,
@@ -241,9 +279,10 @@ fn make_bytes<R: Files, O: Write, E: Write>(
     ensures { IfOk result (λ status. MakesText making.now.force making.now.name.now text.now making.now.file.now
         (O.contents out.old) (O.contents out.new) (E.contents err.old) (E.contents err.new) status) }
 {
-    match make_text(alloc, making.force, making.name, text, err)? {
-        Some(bytes) => write_table(rt, alloc, &bytes, making.file, out, err),
-        None => Ok(1),
+    if is_asl(alloc, text)? {
+        make_block(rt, alloc, making, text, out, err)
+    } else {
+        make_table(rt, alloc, making, text, out, err)
     }
 }
 

@@ -5,8 +5,10 @@ ghost use Rattle.std.specs.IoError.{error_kind};
 ghost use Rattle.std.specs.Io.KnownBytes.{Appends};
 ghost use Rattle.acpi_forms.specs.Known.{is_known};
 ghost use Rattle.acpi_forms.specs.Makes.{IsTemplateOf};
-ghost use Rattle.acpitool_program.specs.Program.{as_word, suggestion, unknown_line, IsTemplated, names_text, Ended, IsLost, Started};
+ghost use Rattle.acpitool_program.specs.Program.{as_word, suggestion, unknown_line, IsTemplated, names_text, Lays, Ended};
+ghost use Rattle.acpitool_program.specs.Program.{IsLost, Started};
 
+use crate::apart::lay_apart;
 use crate::archiving::archive_folder;
 use crate::checking::check_all;
 use crate::command::{Command, parse};
@@ -92,6 +94,26 @@ fn template_of<O: Write, E: Write>(
     Ok(tell_unknown(signature, err)?)
 }
 
+// Lays the tables of a folder, with their own RSDP or with one at another address.
+fn lay<R: Files + AllocGlobal + Clone + Drop, O: Write, E: Write>(
+    rt: &R,
+    alloc: Global,
+    rsdp: Option<u64>,
+    folder: &str,
+    file: &str,
+    base: u64,
+    out: &mut O,
+    err: &mut E,
+) -> io::Result<u8>
+    ensures { IfOk result (λ status. Lays rsdp folder.now file.now base (O.contents out.old) (O.contents out.new)
+        (E.contents err.old) (E.contents err.new) status) }
+{
+    match rsdp {
+        Some(rsdp) => lay_apart(rt, alloc, folder, file, base, rsdp, out, err),
+        None => lay_folder(rt, alloc, folder, file, base, out, err),
+    }
+}
+
 // Returns what is printed of the objects of a definition block: JSON, or lines.
 fn names_text(json: bool) -> BlockText
     ensures { result ≡ names_text json }
@@ -141,7 +163,9 @@ pub fn run<R: Files + Input + AllocGlobal + Clone + Drop, O: Write, E: Write>(
         Ok(Command::Template(signature)) => template_of(alloc, signature, out, err),
         Ok(Command::Unpack(file, folder, base)) => unpack(rt, alloc, file, folder, base, out, err),
         Ok(Command::Cpio(folder, file)) => archive_folder(rt, alloc, folder, file, out, err),
-        Ok(Command::Lay(folder, file, base)) => lay_folder(rt, alloc, folder, file, base, out, err),
+        Ok(Command::Lay(rsdp, folder, file, base)) => {
+            lay(rt, alloc, rsdp, folder, file, base, out, err)
+        }
         Ok(Command::Loader(folder, to)) => load_folder(rt, alloc, folder, to, out, err),
         Ok(Command::Tree(dot, file)) => draw(rt, alloc, dot, file, out, err),
         Ok(Command::Diff(first, second)) => compare_files(rt, alloc, first, second, out, err),

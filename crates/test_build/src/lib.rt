@@ -8,4 +8,6 @@ mod errors;
 #[cfg(test)]
 mod lengths;
 #[cfg(test)]
+mod standard;
+#[cfg(test)]
 mod tables;

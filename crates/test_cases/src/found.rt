@@ -1,6 +1,6 @@
 //! What a run does.
 
-use crate::run::{FILE, MADE, Run};
+use crate::run::{FILE, MADE, Run, run_of_text};
 use crate::structures::print_structures;
 use std::io::Write;
 use std::{fs, io};
@@ -39,8 +39,8 @@ fn take_made(rt: &HostRuntime) -> io::Result<Option<Vec<u8>>> {
     Ok(Some(bytes))
 }
 
-/// Writes the file of a run, and runs it.
-pub fn perform(rt: &HostRuntime, run: &Run) -> io::Result<Found> {
+// Writes the file of a run, and runs it.
+fn perform_once(rt: &HostRuntime, run: &Run) -> io::Result<Found> {
     fs::write(rt, FILE, run.file.as_slice())?;
     let mut out = Vec::new(rt.alloc());
     let mut err = Vec::new(rt.alloc());
@@ -52,6 +52,21 @@ pub fn perform(rt: &HostRuntime, run: &Run) -> io::Result<Found> {
         err,
         made,
     })
+}
+
+/// Writes the file of a run, and runs it. If its text has to be made into the file again, and isn't, what is returned is what
+/// `make` did.
+pub fn perform(rt: &HostRuntime, run: &Run) -> io::Result<Found> {
+    let found = perform_once(rt, run)?;
+    if !run.both || found.status != 0 {
+        return Ok(found);
+    }
+    let text = Vec::from_slice(rt.alloc(), &found.out)?;
+    let back = perform_once(rt, &run_of_text(text)?)?;
+    match &back.made {
+        Some(bytes) if bytes.as_slice() == run.file.as_slice() => Ok(found),
+        _ => Ok(back),
+    }
 }
 
 // Prints lines, each after some text.

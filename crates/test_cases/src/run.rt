@@ -18,6 +18,8 @@ pub struct Run {
     pub words: Vec<String>,
     pub file: Vec<u8>,
     pub status: Option<u8>,
+    /// Whether the text that is printed has to be made into the file again.
+    pub both: bool,
 }
 
 // Adds a word to others.
@@ -42,6 +44,7 @@ fn push_command(words: &mut Vec<String>, command: &str) -> io::Result<()> {
         "listing" => push_both(words, "image", "--json"),
         "objects" => push_both(words, "names", "--json"),
         "dot" => push_both(words, "tree", "--dot"),
+        "both" => push(words, "disassemble"),
         _ => push(words, command),
     }
 }
@@ -158,6 +161,7 @@ fn file_of(alloc: Global, mut content: Content, more: &[Line<'_>]) -> io::Result
 pub fn read_run(alloc: Global, first: &[u8], more: &[Line<'_>]) -> io::Result<Run> {
     let (command, after) = split_command(first)?;
     let mut words = Vec::new(alloc);
+    let both = command == "both";
     let (command, base) = split_base(command);
     push_command(&mut words, command)?;
     push_files(&mut words, command, base)?;
@@ -168,6 +172,20 @@ pub fn read_run(alloc: Global, first: &[u8], more: &[Line<'_>]) -> io::Result<Ru
         words,
         file,
         status,
+        both,
+    })
+}
+
+/// Returns the run that makes a text.
+pub fn run_of_text(text: Vec<u8>) -> io::Result<Run> {
+    let mut words = Vec::new(*text.allocator());
+    push_command(&mut words, "make")?;
+    push_files(&mut words, "make", None)?;
+    Ok(Run {
+        words,
+        file: text,
+        status: None,
+        both: false,
     })
 }
 

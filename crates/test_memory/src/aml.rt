@@ -2,10 +2,11 @@
 
 use crate::trial::Grows;
 use acpi_tables::aml::{
-    BankField, BufferData, BufferTerm, Comparison, Device, Else, Fatal, Field, FieldAccessType,
-    FieldEntry, FieldLockRule, FieldUpdateRule, If, IndexField, Interrupt, Match, MatchTest,
-    Method, MethodCall, Name, ONE, OpRegion, OpRegionSpace, Package, PackageBuilder, Path,
-    PowerResource, ResourceTemplate, Scope, VarPackageTerm, While, ZERO,
+    BankField, BankFieldList, BufferData, BufferTerm, Comparison, Device, Else, Fatal, Field,
+    FieldAccessType, FieldElement, FieldEntry, FieldList, FieldLockRule, FieldUpdateRule, If,
+    IndexField, IndexFieldList, Interrupt, LeveledMethod, Match, MatchTest, Method, MethodCall,
+    Name, ONE, OpRegion, OpRegionSpace, Package, PackageBuilder, Path, PowerResource,
+    ResourceTemplate, RoomyPackage, Scope, VarPackageTerm, While, ZERO,
 };
 use acpi_tables::{Aml, R};
 use std::alloc::Global;
@@ -84,7 +85,7 @@ fn resources(alloc: Global) -> R<ResourceTemplate> {
     ResourceTemplate::new(vec![in alloc; &interrupt as &dyn Aml]?)
 }
 
-pub const STANDARD: u8 = 5;
+pub const STANDARD: u8 = 11;
 
 fn search(alloc: Global, child: &u32) -> R<Match> {
     let test = MatchTest::new(alloc, Comparison::Equal, child)?;
@@ -98,7 +99,16 @@ pub fn standard(alloc: Global, child: &u32, which: u8) -> R<Vec<u8>> {
         1 => bytes_of(alloc, search(alloc, child)),
         2 => bytes_of(alloc, Fatal::new(alloc, 1, 2, child)),
         3 => bytes_of(alloc, index_field(alloc)),
-        _ => bytes_of(alloc, bank_field(alloc, child)),
+        4 => bytes_of(alloc, bank_field(alloc, child)),
+        5 => bytes_of(alloc, Path::name_string(alloc, "^^PCI0.COM1")),
+        6 => bytes_of(
+            alloc,
+            RoomyPackage::new(9, vec![in alloc; child as &dyn Aml, &ONE]?),
+        ),
+        7 => bytes_of(alloc, leveled_method(alloc, child)),
+        8 => bytes_of(alloc, field_list(alloc)),
+        9 => bytes_of(alloc, index_field_list(alloc)),
+        _ => bytes_of(alloc, bank_field_list(alloc, child)),
     }
 }
 
@@ -122,6 +132,58 @@ fn bank_field(alloc: Global, child: &u32) -> R<BankField> {
         FieldLockRule::NoLock,
         FieldUpdateRule::Preserve,
         vec![in alloc; FieldEntry::Reserved(32), FieldEntry::Named(*b"READ", 64)]?,
+    )
+}
+
+fn leveled_method(alloc: Global, child: &u32) -> R<LeveledMethod> {
+    let body = vec![in alloc; child as &dyn Aml, &ONE]?;
+    LeveledMethod::new(path(alloc)?, 7, true, 15, body)
+}
+
+// One element of each kind.
+fn elements(alloc: Global) -> R<Vec<FieldElement>> {
+    let mut elements = Vec::new(alloc);
+    elements.push(FieldElement::Named(*b"READ", 64))?;
+    elements.push(FieldElement::Reserved(32))?;
+    elements.push(FieldElement::AccessAs(1, 2))?;
+    elements.push(FieldElement::ExtendedAccessAs(5, 11, 16))?;
+    elements.push(FieldElement::Connection(path(alloc)?))?;
+    elements.push(FieldElement::ConnectionBuffer(buffer(alloc)?))?;
+    Ok(elements)
+}
+
+fn field_list(alloc: Global) -> R<FieldList> {
+    FieldList::new(
+        &path(alloc)?,
+        FieldAccessType::Byte,
+        FieldLockRule::NoLock,
+        FieldUpdateRule::Preserve,
+        elements(alloc)?,
+    )
+}
+
+fn index_field_list(alloc: Global) -> R<IndexFieldList> {
+    let path = path(alloc)?;
+    IndexFieldList::new(
+        &path,
+        &path,
+        FieldAccessType::Byte,
+        FieldLockRule::NoLock,
+        FieldUpdateRule::Preserve,
+        elements(alloc)?,
+    )
+}
+
+fn bank_field_list(alloc: Global, child: &u32) -> R<BankFieldList> {
+    let path = path(alloc)?;
+    BankFieldList::new(
+        &path,
+        &path,
+        child,
+        FieldAccessType::Byte,
+        FieldLockRule::NoLock,
+        FieldUpdateRule::Preserve,
+        elements(alloc)?,
     )
 }
 

@@ -4,7 +4,7 @@ use acpi_build::block::Block;
 use acpi_build::error::BuildError;
 use acpi_build::table::TableBuilder;
 use acpi_tables::aml::{
-    FieldAccessType, FieldEntry, FieldLockRule, FieldUpdateRule, IO, OpRegionSpace,
+    FieldAccessType, FieldElement, FieldEntry, FieldLockRule, FieldUpdateRule, IO, OpRegionSpace,
 };
 use acpi_tables::sdt::Sdt;
 use acpi_tables::{Aml, Error, R};
@@ -12,7 +12,7 @@ use acpi_term::op::Op;
 use std::alloc::Global;
 use test_support::{OEM, OEM_REVISION, OEM_TABLE, bytes_of};
 
-pub const BUILT: u8 = 6;
+pub const BUILT: u8 = 7;
 
 fn add_objects(block: &mut Block, child: &u32) {
     block.add(child);
@@ -37,6 +37,18 @@ fn add_regions(block: &mut Block, child: &u32) {
     block.release("ABCD");
 }
 
+fn add_field_list(alloc: Global, block: &mut Block) -> R<()> {
+    let elements = vec![in alloc; FieldElement::AccessAs(1, 2), FieldElement::Reserved(32)]?;
+    block.field_list(
+        "^ABCD",
+        FieldAccessType::Byte,
+        FieldLockRule::NoLock,
+        FieldUpdateRule::Preserve,
+        elements,
+    );
+    Ok(())
+}
+
 // Adds a child to what was opened, and ends it.
 fn fill(block: &mut Block, child: &u32) {
     block.add(child);
@@ -56,6 +68,8 @@ fn add_named(block: &mut Block, child: &u32) {
     fill(block, child);
     block.method("ABCD", 7, true);
     fill(block, child);
+    block.leveled_method("^ABCD", 7, true, 15);
+    fill(block, child);
 }
 
 fn add_statements(block: &mut Block, child: &u32) {
@@ -71,6 +85,10 @@ fn add_lists(block: &mut Block, child: &u32) {
     block.package();
     fill(block, child);
     block.named_package("_PRT");
+    fill(block, child);
+    block.package_with_room(9);
+    fill(block, child);
+    block.named_package_with_room("^_PRT", 9);
     fill(block, child);
     block.resources("_CRS");
     block.add(&IO::new(1, 2, 3, 4));
@@ -106,6 +124,7 @@ pub fn built(alloc: Global, child: &u32, which: u8) -> R<Vec<u8>> {
         2 => add_statements(&mut block, child),
         3 => add_lists(&mut block, child),
         4 => add_regions(&mut block, child),
+        5 => add_field_list(alloc, &mut block)?,
         _ => return bytes_of(alloc, table(alloc, *child)),
     }
     finished(block)

@@ -19,7 +19,8 @@ const BLOCK: &[u8] =
 
 /// A statement that moves to a new block, fields with gaps, a package, a buffer, a template, an id, a name that would be a
 /// word, calls with and without arguments, and a target that is left out.
-const TEXT: &str = "DefinitionBlock (\"\", \"DSDT\", 2, \"OEMID\", \"OEMTABLE\", 0x00000001)
+const TEXT: &str = "/*= Creator \"INTL\", 0x20200925 */
+DefinitionBlock (\"\", \"DSDT\", 2, \"OEMID\", \"OEMTABLE\", 0x00000001)
 {
     External (\\EXTM, MethodObj, UnknownObj, {UnknownObj, UnknownObj})
     OperationRegion (REG, SystemIO, 0x0402, One)

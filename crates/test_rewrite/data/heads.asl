@@ -19,6 +19,8 @@ DefinitionBlock ("", "DSDT", 2, "FOOBAR", "CAFEDEAD", 0x00000001)
     Name (BUF2, Buffer (0x40) {})
     Name (PAK0, Package (3) { 1, "A", Package () { NUM0, \NUM1 } })
     Name (PAK1, Package () {})
+    Name (PAK2, Package (0x80) {})
+    Name (PAK3, Package (4) { 1, Package (2) { NUM0 }, \NUM1 })
     Name (_HID, EisaId ("PNP0A08"))
     Name (UUID, ToUUID ("33db4d5b-1ff7-401c-9657-7441c03dd766"))
     Alias (NUM2, NUM7)
@@ -48,6 +50,21 @@ DefinitionBlock ("", "DSDT", 2, "FOOBAR", "CAFEDEAD", 0x00000001)
     IndexField (INDX, VALU, ByteAcc, NoLock, Preserve) { IDX0, 8, IDX1, 8 }
     BankField (REG1, BANK, 2, ByteAcc, Lock, WriteAsZeros) { BNK0, 8, , 8, BNK1, 16 }
 
+    // Field lists that say how the fields after an entry are accessed, and by which connection.
+    Name (BUS0, ResourceTemplate () { I2CSerialBusV2 (0x12, ControllerInitiated, 400000, AddressingMode7Bit, "\\_SB.I2C0") })
+    Field (REG9, BufferAcc, NoLock, Preserve)
+    {
+        Connection (BUS0),
+        AccessAs (BufferAcc, AttribWord),
+        FLD8, 8,
+        AccessAs (BufferAcc, AttribBytes (16)),
+        , 8,
+        Connection (I2CSerialBusV2 (0x5b, ControllerInitiated, 400000, AddressingMode7Bit, "\\_SB.I2C0")),
+        FLD9, 8
+    }
+    IndexField (INDX, VALU, ByteAcc, NoLock, Preserve) { AccessAs (ByteAcc, AttribQuick), IDX2, 8 }
+    BankField (REG1, BANK, 3, ByteAcc, NoLock, Preserve) { BNK2, 8, AccessAs (ByteAcc, AttribByte), BNK3, 8 }
+
     // Frames around lists.
     PowerResource (PWR0, 4, 0x0102)
     {
@@ -56,6 +73,10 @@ DefinitionBlock ("", "DSDT", 2, "FOOBAR", "CAFEDEAD", 0x00000001)
     ThermalZone (THRM)
     {
         Method (_TMP) { Return (3000) }
+    }
+    Scope (\)
+    {
+        Name (NUMC, Zero)
     }
     Scope (\_SB)
     {
@@ -67,7 +88,31 @@ DefinitionBlock ("", "DSDT", 2, "FOOBAR", "CAFEDEAD", 0x00000001)
             {
                 Name (_UID, "D")
                 Name (_STA, 0x0f)
+
+                // Names after ^, and ^ and the root alone.
+                Name (^NUM8, Package () { ^NUM9, \NUM0 })
+                Device (^DEV1)
+                {
+                    Name (_ADR, One)
+                    Method (^DEV0.MTH8, 1) { Return (^^NUM8) }
+                }
+                Method (MTH9)
+                {
+                    Store (^MTH8 (^^NUM9), ^^DEV1._ADR)
+                    Notify (^^^PCI0, 0x81)
+                    Notify (^, 0x82)
+                    Store (RefOf (\), Local0)
+                }
+                Scope (^)
+                {
+                    Name (NUMA, Zero)
+                }
+                Scope (^^)
+                {
+                    Name (NUMB, One)
+                }
             }
+            Name (NUM9, One)
         }
     }
     Scope (\_SB.PCI0.DEV0)
@@ -90,6 +135,8 @@ DefinitionBlock ("", "DSDT", 2, "FOOBAR", "CAFEDEAD", 0x00000001)
     Method (MTH0) {}
     Method (MTH1, 1, Serialized) { Return (Arg0) }
     Method (MTH7, 7) { Return (Arg6) }
+    Method (LVL1, 0, Serialized, 1) {}
+    Method (LVLF, 7, Serialized, 15) { Return (Arg6) }
     Method (CALL)
     {
         MTH0 ()

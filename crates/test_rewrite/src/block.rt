@@ -21,7 +21,7 @@ use std::alloc::Global;
 const HEADER: usize = 36;
 
 /// What came of writing a block anew.
-#[derive(Clone, Copy)]
+#[derive(Drop)]
 pub enum Outcome {
     /// Its terms can't be read.
     Unread(ReadError),
@@ -33,6 +33,10 @@ pub enum Outcome {
     Same,
     /// The bytes are those of the constructors of descriptors.
     Described,
+    /// The ASL of the block isn't made into a block, and why.
+    Refused(String),
+    /// The bytes are those of the ASL of the block.
+    Compiled,
 }
 
 // Returns the terms of a block. Calls take the numbers of arguments that the block states.
@@ -83,8 +87,8 @@ fn table_of(alloc: Global, header: &[u8; HEADER], body: &[u8]) -> R<Vec<u8>> {
     Ok(Vec::from_slice(alloc, table.as_slice())?)
 }
 
-// Returns the offset of the first byte that differs, if there is one.
-fn difference(bytes: &[u8], wanted: &[u8]) -> Option<usize> {
+/// Returns the offset of the first byte that differs, if there is one.
+pub fn difference(bytes: &[u8], wanted: &[u8]) -> Option<usize> {
     for (at, byte) in bytes.iter().enumerate() {
         if wanted.get(at) != Some(byte) {
             return Some(at);

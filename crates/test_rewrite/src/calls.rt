@@ -1,7 +1,7 @@
 //! Terms by the calls of a block: each object is begun, filled and ended. Operands are objects.
 
 use crate::cause::cause_of;
-use crate::fields::{entries_of, rules};
+use crate::fields::{are_bits, elements_of, entries_of, rules};
 use crate::found::Found;
 use crate::names::path_text;
 use crate::numbers::region_space;
@@ -25,6 +25,9 @@ fn begin_named(block: &mut Block, kind: Kind<'_>, path: &str) {
         Kind::Processor(_, id, address, size) => block.processor(path, id, address, size),
         Kind::PowerResource(_, level, order) => block.power_resource(path, level, order),
         Kind::Method(_, args, serialized) => block.method(path, args, serialized),
+        Kind::LeveledMethod(_, args, serialized, level) => {
+            block.leveled_method(path, args, serialized, level);
+        }
         _ => {}
     }
 }
@@ -38,7 +41,11 @@ fn begin(alloc: Global, block: &mut Block, kind: Kind<'_>) -> Result<bool, Build
         Kind::Processor(name, ..) | Kind::PowerResource(name, ..) | Kind::Method(name, ..) => {
             begin_named(block, kind, path_text(alloc, name)?.as_str());
         }
+        Kind::LeveledMethod(name, ..) => {
+            begin_named(block, kind, path_text(alloc, name)?.as_str());
+        }
         Kind::Package => block.package(),
+        Kind::RoomyPackage(room) => block.package_with_room(room),
         Kind::Else => block.otherwise(),
         _ => return Ok(false),
     }
@@ -64,16 +71,20 @@ fn begin_test(
     Ok(true)
 }
 
-// Adds a package with a name.
+// Adds a package with a name, and with room if it has any for more elements.
 fn add_named_package(
     alloc: Global,
     block: &mut Block,
     path: &str,
+    room: Option<u8>,
     elements: &[Term],
 ) -> Result<(), BuildError> {
     let mut objects = Vec::new(alloc);
     push_objects(alloc, elements, &mut objects, &mut Found::new(alloc))?;
-    block.named_package(path);
+    match room {
+        Some(room) => block.named_package_with_room(path, room),
+        None => block.named_package(path),
+    }
     for object in &objects {
         block.add(object);
     }
@@ -89,11 +100,14 @@ fn add_name(
     value: &Term,
 ) -> Result<(), BuildError> {
     let path = path_text(alloc, name)?;
-    if let (Term::Package { elements, .. }, None) = (
-        value,
-        cause_of(alloc, value, parts_of(value))?,
-    ) {
-        return add_named_package(alloc, block, path.as_str(), elements);
+    match (value, cause_of(alloc, value, parts_of(value))?) {
+        (Term::Package { elements, .. }, None) => {
+            return add_named_package(alloc, block, path.as_str(), None, elements);
+        }
+        (Term::RoomyPackage { room, elements, .. }, None) => {
+            return add_named_package(alloc, block, path.as_str(), Some(*room), elements);
+        }
+        _ => {}
     }
     let value = object_of(alloc, value, &mut Found::new(alloc))?;
     block.name(path.as_str(), &value);
@@ -153,8 +167,13 @@ fn add_field(
 ) -> Result<(), BuildError> {
     let path = path_text(alloc, name)?;
     let (access, lock, update) = rules(numbers)?;
-    let entries = entries_of(alloc, entries)?;
-    block.field(path.as_str(), access, lock, update, &entries);
+    if are_bits(entries) {
+        let entries = entries_of(alloc, entries)?;
+        block.field(path.as_str(), access, lock, update, &entries);
+    } else {
+        let elements = elements_of(alloc, entries)?;
+        block.field_list(path.as_str(), access, lock, update, elements);
+    }
     Ok(())
 }
 
@@ -166,7 +185,7 @@ fn add_named(
     children: &[Spelt],
 ) -> Result<bool, BuildError> {
     match kind {
-        Kind::Call(name) if !children.is_empty() => add_call(alloc, block, name, children)?,
+        Kind::Call(name) => add_call(alloc, block, name, children)?,
         Kind::External(name, kind, args) => {
             block.external(path_text(alloc, name)?.as_str(), kind, args);
         }

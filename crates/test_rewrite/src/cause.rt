@@ -14,11 +14,9 @@ use std::slice::from_ref;
 // Why a name has no path.
 fn name_cause(alloc: Global, name: &NameString) -> Result<Option<&'static str>, AllocError> {
     if text_of(alloc, name)?.is_some() {
-        return Ok(None);
-    }
-    match name.as_bytes() {
-        [0x5e, ..] => Ok(Some("a name after ^ before an object or arguments")),
-        _ => Ok(Some("the root or a null name before an object or arguments")),
+        Ok(None)
+    } else {
+        Ok(Some("a null name"))
     }
 }
 
@@ -34,16 +32,12 @@ fn names_cause(
     }
 }
 
-// Why a head's names have no path. A name alone needs none.
-fn path_cause(
-    alloc: Global,
-    kind: Kind<'_>,
-    is_alone: bool,
-) -> Result<Option<&'static str>, AllocError> {
+// Why a head's names have no path.
+fn path_cause(alloc: Global, kind: Kind<'_>) -> Result<Option<&'static str>, AllocError> {
     match kind {
-        Kind::Call(_) if is_alone => Ok(None),
         Kind::Call(name) | Kind::Scope(name) | Kind::Device(name) => name_cause(alloc, name),
         Kind::Method(name, ..) | Kind::PowerResource(name, ..) => name_cause(alloc, name),
+        Kind::LeveledMethod(name, ..) => name_cause(alloc, name),
         Kind::Field(name, ..) | Kind::OpRegion(name, _) => name_cause(alloc, name),
         Kind::Name(name) | Kind::Mutex(name, _) => name_cause(alloc, name),
         Kind::Acquire(name, _) | Kind::Release(name) => name_cause(alloc, name),
@@ -53,6 +47,14 @@ fn path_cause(
         Kind::BankField(name, bank, ..) => names_cause(alloc, name, bank),
         _ => Ok(None),
     }
+}
+
+// Whether a connection's buffer has the widths that are written, and the number of its bytes as its size.
+fn is_least_buffer(width: u8, size: u64, size_width: u8, bytes: &[u8]) -> bool {
+    let content = usize::from(size_width)
+        .saturating_add(1)
+        .saturating_add(bytes.len());
+    size == bytes.len() as u64 && size_width == least_number(size) && width == least_width(content)
 }
 
 // Why no constructor writes an entry of a field.
@@ -65,12 +67,19 @@ fn entry_cause(entry: &TermEntry) -> Option<&'static str> {
                 Some("a field whose number of bits has another width")
             }
         }
-        TermEntry::AccessAs(..) | TermEntry::ExtendedAccessAs(..) => {
-            Some("a field with AccessField")
+        TermEntry::ConnectionBuffer {
+            width,
+            size,
+            size_width,
+            bytes,
+        } => {
+            if is_least_buffer(*width, *size, *size_width, bytes) {
+                None
+            } else {
+                Some("a connection whose buffer has another size or width")
+            }
         }
-        TermEntry::Connection(_) | TermEntry::ConnectionBuffer { .. } => {
-            Some("a field with ConnectField")
-        }
+        _ => None,
     }
 }
 
@@ -104,8 +113,6 @@ fn value_cause(kind: Kind<'_>, width: u8) -> Option<&'static str> {
         Kind::Number(value) if width != least_number(value) => {
             Some("a number of more bytes than it needs")
         }
-        Kind::LeveledMethod(..) => Some("a method with a synchronization level"),
-        Kind::RoomyPackage(_) => Some("a package with room for more elements"),
         Kind::OpRegion(_, space) if region_space(space).is_none() => {
             Some("a region of an address space past 9")
         }
@@ -141,7 +148,7 @@ pub fn cause_of(alloc: Global, term: &Term, parts: Parts<'_>) -> R<Option<&'stat
     if let Some(cause) = value_cause(parts.kind, parts.width) {
         return Ok(Some(cause));
     }
-    if let Some(cause) = path_cause(alloc, parts.kind, parts.first.is_empty())? {
+    if let Some(cause) = path_cause(alloc, parts.kind)? {
         return Ok(Some(cause));
     }
     if is_long(alloc, term, parts.kind, parts.width)? {

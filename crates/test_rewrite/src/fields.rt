@@ -4,8 +4,10 @@ use crate::names::path_of;
 use crate::numbers::{access_type, lock_rule, update_rule};
 use crate::objects::UNWRITTEN;
 use crate::spelt::{Spelt, made};
+use acpi_aml::buffer::BufferData;
 use acpi_aml::field::{Field, FieldAccessType, FieldEntry, FieldLockRule, FieldUpdateRule};
 use acpi_build::error::BuildError;
+use acpi_ops::element::{BankFieldList, FieldElement, FieldList, IndexFieldList};
 use acpi_ops::field::{BankField, IndexField};
 use acpi_term::name_string::NameString;
 use acpi_term::term::TermEntry;
@@ -44,6 +46,42 @@ pub fn entries_of(alloc: Global, entries: &[TermEntry]) -> Result<Vec<FieldEntry
     Ok(all)
 }
 
+/// Whether all entries are bits, which the constructors of the port take.
+pub fn are_bits(entries: &[TermEntry]) -> bool {
+    for entry in entries {
+        if entry_of(entry).is_none() {
+            return false;
+        }
+    }
+    true
+}
+
+// Returns an entry as an element.
+fn element_of(alloc: Global, entry: &TermEntry) -> Result<FieldElement, BuildError> {
+    match entry {
+        TermEntry::Named(name, bits, _) => Ok(FieldElement::Named(*name, *bits as usize)),
+        TermEntry::Reserved(bits, _) => Ok(FieldElement::Reserved(*bits as usize)),
+        TermEntry::AccessAs(access, attribute) => Ok(FieldElement::AccessAs(*access, *attribute)),
+        TermEntry::ExtendedAccessAs(access, attribute, size) => {
+            Ok(FieldElement::ExtendedAccessAs(*access, *attribute, *size))
+        }
+        TermEntry::Connection(name) => Ok(FieldElement::Connection(path_of(alloc, name)?)),
+        TermEntry::ConnectionBuffer { bytes, .. } => {
+            let buffer = BufferData::new(Vec::from_slice(alloc, bytes)?)?;
+            Ok(FieldElement::ConnectionBuffer(buffer))
+        }
+    }
+}
+
+/// Returns entries as elements.
+pub fn elements_of(alloc: Global, entries: &[TermEntry]) -> Result<Vec<FieldElement>, BuildError> {
+    let mut all = Vec::with_capacity(alloc, entries.len())?;
+    for entry in entries {
+        all.push(element_of(alloc, entry)?)?;
+    }
+    Ok(all)
+}
+
 /// Writes a field.
 pub fn field(
     alloc: Global,
@@ -53,8 +91,13 @@ pub fn field(
 ) -> Result<Spelt, BuildError> {
     let (access, lock, update) = rules(numbers)?;
     let path = path_of(alloc, name)?;
-    let entries = entries_of(alloc, entries)?;
-    made(alloc, Field::new(path, access, lock, update, entries))
+    if are_bits(entries) {
+        let entries = entries_of(alloc, entries)?;
+        made(alloc, Field::new(path, access, lock, update, entries))
+    } else {
+        let elements = elements_of(alloc, entries)?;
+        made(alloc, FieldList::new(&path, access, lock, update, elements))
+    }
 }
 
 /// Writes a field of registers that have an index.
@@ -68,11 +111,19 @@ pub fn index_field(
     let (access, lock, update) = rules(numbers)?;
     let index = path_of(alloc, index)?;
     let name = path_of(alloc, name)?;
-    let entries = entries_of(alloc, entries)?;
-    made(
-        alloc,
-        IndexField::new(index, name, access, lock, update, entries),
-    )
+    if are_bits(entries) {
+        let entries = entries_of(alloc, entries)?;
+        made(
+            alloc,
+            IndexField::new(index, name, access, lock, update, entries),
+        )
+    } else {
+        let elements = elements_of(alloc, entries)?;
+        made(
+            alloc,
+            IndexFieldList::new(&index, &name, access, lock, update, elements),
+        )
+    }
 }
 
 /// Writes a field of a bank.
@@ -90,9 +141,17 @@ pub fn bank_field(
     let (access, lock, update) = rules(numbers)?;
     let name = path_of(alloc, name)?;
     let bank = path_of(alloc, bank)?;
-    let entries = entries_of(alloc, entries)?;
-    made(
-        alloc,
-        BankField::new(name, bank, value, access, lock, update, entries),
-    )
+    if are_bits(entries) {
+        let entries = entries_of(alloc, entries)?;
+        made(
+            alloc,
+            BankField::new(name, bank, value, access, lock, update, entries),
+        )
+    } else {
+        let elements = elements_of(alloc, entries)?;
+        made(
+            alloc,
+            BankFieldList::new(&name, &bank, value, access, lock, update, elements),
+        )
+    }
 }

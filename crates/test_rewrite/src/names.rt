@@ -40,17 +40,31 @@ fn segments(name: &[u8]) -> &[u8] {
     }
 }
 
-/// Returns the text of which `Path` makes a name. A null name, the root alone and a name after `^` have none.
+// Adds the `\` or the `^` before a name, and returns the bytes after it.
+fn push_prefix<'a>(name: &'a [u8], text: &mut String) -> Result<&'a [u8], AllocError> {
+    let mut rest = name;
+    for _ in 0..name.len() {
+        match rest {
+            [0x5c, after @ ..] if text.is_empty() => {
+                text.push('\\')?;
+                return Ok(after);
+            }
+            [0x5e, after @ ..] => {
+                text.push('^')?;
+                rest = after;
+            }
+            _ => break,
+        }
+    }
+    Ok(rest)
+}
+
+/// Returns the text of which `Path::name_string` makes a name. A null name has none.
 pub fn text_of(alloc: Global, name: &NameString) -> Result<Option<String>, AllocError> {
     let mut text = String::new(alloc);
-    let rest = match name.as_bytes() {
-        [0x5c, rest @ ..] => {
-            text.push('\\')?;
-            rest
-        }
-        bytes => bytes,
-    };
-    if push_segments(segments(rest), &mut text)? {
+    let rest = push_prefix(name.as_bytes(), &mut text)?;
+    let is_null = matches!(rest, [0x00]) && !text.is_empty();
+    if is_null || push_segments(segments(rest), &mut text)? {
         Ok(Some(text))
     } else {
         Ok(None)
@@ -68,7 +82,7 @@ pub fn path_text(alloc: Global, name: &NameString) -> Result<String, BuildError>
 /// Returns the path of a name that has a text.
 pub fn path_of(alloc: Global, name: &NameString) -> Result<Path, BuildError> {
     let text = path_text(alloc, name)?;
-    Ok(Path::new(alloc, text.as_str())?)
+    Ok(Path::name_string(alloc, text.as_str())?)
 }
 
 /// Returns the bytes of a name as a text, as the constructor of a field's name takes them.

@@ -20,6 +20,8 @@ use acpi_base::error::Error;
 use acpi_base::object::Aml;
 use acpi_build::block::Block;
 use acpi_build::error::BuildError;
+use acpi_ops::method::LeveledMethod;
+use acpi_ops::package::RoomyPackage;
 use acpi_ops::search::MatchTest;
 use acpi_ops::statement::Fatal;
 use acpi_term::apart::{Kind, Parts, parts_of};
@@ -42,11 +44,14 @@ fn number(alloc: Global, value: u64) -> Result<Spelt, BuildError> {
 
 // Writes a call with its arguments, or a name.
 fn call(alloc: Global, name: &NameString, children: &[Spelt]) -> Result<Spelt, BuildError> {
-    if children.is_empty() {
+    if children.is_empty() && name.as_bytes().len() == 4 {
         let text = raw_text(name)?;
         return made(alloc, Name::new_field_name(alloc, text));
     }
     let path = path_of(alloc, name)?;
+    if children.is_empty() {
+        return written(alloc, &path);
+    }
     made(alloc, MethodCall::new(path, operands!(alloc, children)))
 }
 
@@ -65,6 +70,10 @@ fn named_frame(
         Kind::Method(_, args, serialized) => {
             made(alloc, Method::new(path, args, serialized, children))
         }
+        Kind::LeveledMethod(_, args, serialized, level) => made(
+            alloc,
+            LeveledMethod::new(path, args, serialized, level, children),
+        ),
         Kind::PowerResource(_, level, order) => {
             made(alloc, PowerResource::new(path, level, order, children))
         }
@@ -195,6 +204,10 @@ fn listed(alloc: Global, kind: Kind<'_>, children: &[Spelt]) -> Result<Spelt, Bu
     match kind {
         Kind::Buffer(bytes) => buffer(alloc, bytes, children),
         Kind::Package => made(alloc, Package::new(operands!(alloc, children))),
+        Kind::RoomyPackage(room) => made(
+            alloc,
+            RoomyPackage::new(room, operands!(alloc, children)),
+        ),
         Kind::VarPackage => var_package(alloc, children),
         Kind::If | Kind::While => tested(alloc, kind, children),
         Kind::Else => made(alloc, Else::new(operands!(alloc, children))),
@@ -229,9 +242,10 @@ fn named(alloc: Global, kind: Kind<'_>, children: &[Spelt]) -> Result<Spelt, Bui
     match kind {
         Kind::Call(name) => call(alloc, name, children),
         Kind::Scope(name) | Kind::Device(name) => named_frame(alloc, kind, name, children),
-        Kind::Method(name, ..) | Kind::PowerResource(name, ..) => {
+        Kind::Method(name, ..) | Kind::LeveledMethod(name, ..) => {
             named_frame(alloc, kind, name, children)
         }
+        Kind::PowerResource(name, ..) => named_frame(alloc, kind, name, children),
         Kind::Processor(name, ..) | Kind::ThermalZone(name) => {
             block_frame(alloc, kind, name, children)
         }
@@ -254,7 +268,9 @@ fn by_constructor(alloc: Global, kind: Kind<'_>, children: &[Spelt]) -> Result<S
         Kind::Local(n) => written(alloc, &Local(n)),
         Kind::Arg(n) => written(alloc, &Arg(n)),
         Kind::Op(op) => operation(alloc, op, children),
-        Kind::Buffer(_) | Kind::Package | Kind::VarPackage => listed(alloc, kind, children),
+        Kind::Buffer(_) | Kind::Package | Kind::RoomyPackage(_) | Kind::VarPackage => {
+            listed(alloc, kind, children)
+        }
         Kind::If | Kind::While | Kind::Else => listed(alloc, kind, children),
         Kind::Fatal(..) | Kind::MatchTest(_) => listed(alloc, kind, children),
         _ => named(alloc, kind, children),

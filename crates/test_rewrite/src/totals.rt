@@ -15,6 +15,8 @@ pub struct Totals {
     part: u64,
     unread: u64,
     wrong: u64,
+    /// Those whose ASL is made into them.
+    compiled: u64,
     found: Found,
 }
 
@@ -56,17 +58,21 @@ impl Totals {
             part: 0,
             unread: 0,
             wrong: 0,
+            compiled: 0,
             found: Found::new(alloc),
         }
     }
 
     // Counts a block by what came of it.
-    fn tally(&mut self, outcome: Outcome, found: &Found) {
+    fn tally(&mut self, outcome: &Outcome, found: &Found) {
         match outcome {
             Outcome::Unread(_) => self.unread = self.unread.saturating_add(1),
-            Outcome::Failed(_) | Outcome::Differs(_) => self.wrong = self.wrong.saturating_add(1),
+            Outcome::Failed(_) | Outcome::Differs(_) | Outcome::Refused(_) => {
+                self.wrong = self.wrong.saturating_add(1)
+            }
             Outcome::Same if !found.causes.is_empty() => self.part = self.part.saturating_add(1),
             Outcome::Same | Outcome::Described => self.whole = self.whole.saturating_add(1),
+            Outcome::Compiled => self.compiled = self.compiled.saturating_add(1),
         }
     }
 
@@ -78,14 +84,16 @@ impl Totals {
         found: &Found,
         out: &mut O,
     ) -> io::Result<()> {
-        match outcome {
+        match &outcome {
             Outcome::Unread(error) => writeln!(out, "{name}: unread: {error}")?,
             Outcome::Failed(error) => writeln!(out, "{name}: failed: {error}")?,
             Outcome::Differs(at) => writeln!(out, "{name}: differs at {at}")?,
             Outcome::Described => writeln!(out, "{name}: the same by constructors of descriptors")?,
+            Outcome::Refused(why) => writeln!(out, "{name}: the ASL is refused: {why}")?,
+            Outcome::Compiled => writeln!(out, "{name}: the same by its ASL")?,
             Outcome::Same => print_same(name, found, out)?,
         }
-        self.tally(outcome, found);
+        self.tally(&outcome, found);
         add_counts(&found.heads, &mut self.found.heads)?;
         add_counts(&found.causes, &mut self.found.causes)
     }
@@ -94,8 +102,8 @@ impl Totals {
     pub fn print<O: Write>(&self, out: &mut O) -> io::Result<()> {
         writeln!(
             out,
-            "{} blocks by constructors alone, {} in part, {} unread, {} wrong",
-            self.whole, self.part, self.unread, self.wrong
+            "{} blocks by constructors alone, {} in part, {} by their ASL, {} unread, {} wrong",
+            self.whole, self.part, self.compiled, self.unread, self.wrong
         )?;
         writeln!(out, "by constructors:")?;
         print_counts(&self.found.heads, "  ", out)?;

@@ -53,8 +53,8 @@ pub use image::{
 };
 pub use object::{Aml, AmlSink, CREATOR_ID, CREATOR_REVISION, Checksum, u8sum};
 pub use table::{
-    AmongText, check_aml, check_table, disassemble, disassemble_among, names, names_among, seal,
-    structures,
+    AmongText, check_aml, check_table, compile, disassemble, disassemble_among, names, names_among,
+    seal, structures,
 };
 pub use text::{findings, make, notes, show, template};
 pub use writer::{Access, MemoryType, Op, RegionSpace, Update, Writer};

@@ -76,6 +76,14 @@ pub fn names(bytes: &[u8], arities: &str) -> Result<String, Error> {
     Ok(crate::text::text_of(text))
 }
 
+/// Returns the definition block of a text that `disassemble` returned, or one like it (ACPI 6.5, 19). Lengths and the checksum are
+/// worked out. The place of an error is a line.
+pub fn compile(text: &str) -> Result<Vec<u8>, Error> {
+    filled(|out, room, size, place| unsafe {
+        sys::hyssop_compile(text.as_ptr(), text.len(), out, room, size, place)
+    })
+}
+
 /// The text of a definition block that is read among others.
 #[derive(Clone, Debug, PartialEq, Eq)]
 pub struct AmongText {

@@ -8,7 +8,8 @@ pub(crate) fn text_of(bytes: Vec<u8>) -> String {
     String::from_utf8_lossy(&bytes).into_owned()
 }
 
-/// Returns the text of a table, an RSDP or a FACS: a line for each field, by its name. The place of an error is an offset.
+/// Returns the text of a table, an RSDP, a FACS, a CDAT or an S3PT: a line for each field, by its
+/// name. The place of an error is an offset.
 pub fn show(bytes: &[u8]) -> Result<String, Error> {
     let text = filled(|out, room, size, place| unsafe {
         sys::hyssop_show(bytes.as_ptr(), bytes.len(), out, room, size, place)
@@ -16,7 +17,8 @@ pub fn show(bytes: &[u8]) -> Result<String, Error> {
     Ok(text_of(text))
 }
 
-/// Returns the rules of the standard that a table breaks, or an RSDP or a FACS: a line for each, and no line if it breaks none.
+/// Returns the rules of the standard that a table, an RSDP, a FACS, a CDAT or an S3PT breaks: a
+/// line for each, and no line if it breaks none.
 /// The place of an error is an offset.
 pub fn findings(bytes: &[u8]) -> Result<String, Error> {
     let text = filled(|out, room, size, place| unsafe {

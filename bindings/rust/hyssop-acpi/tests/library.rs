@@ -211,6 +211,26 @@ fn definition_blocks() {
     assert!(names(&dsdt, "").unwrap().contains("COM1"));
 }
 
+#[test]
+fn blocks_of_asl() {
+    let text = "/*= Creator \"RVAT\", 0x01000000 */\n\
+        DefinitionBlock (\"\", \"DSDT\", 2, \"FOOBAR\", \"CAFEDEAD\", 0x00000001)\n{\n    \
+        Device (\\_SB.COM1)\n    {\n        Name (_UID, 0x03)\n    }\n}\n";
+    let mut dsdt = Writer::table("DSDT", 2, OEM.0, OEM.1, 1);
+    dsdt.device("\\_SB_.COM1", |w| {
+        w.name("_UID").integer(3);
+    });
+    let dsdt = dsdt.finish().unwrap();
+    assert_eq!(disassemble(&dsdt, "").as_deref(), Ok(text));
+    assert_eq!(compile(text), Ok(dsdt));
+    let error = compile(&text.replace("0x03", "3")).unwrap_err();
+    assert_eq!((error.fault, error.place), (fault::NOT_ASL, 6));
+    assert_eq!(
+        error.to_string(),
+        "at 6: the text isn't the ASL of a definition block"
+    );
+}
+
 /// A block that calls a method of another one (ACPI 6.5, 5.3).
 #[test]
 fn further_blocks() {

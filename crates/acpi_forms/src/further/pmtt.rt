@@ -36,12 +36,29 @@ const DEVICE_DIMM: [Row; 2] = [
     Row::Hex("SMBIOS Handle", 4),
 ];
 
+// In revision 1 of the table a socket contains the devices below it, and this one has none.
+const EARLIER_SOCKET: [Row; 2] = [Row::Number("Socket Identifier", 2), Row::Reserved(2)];
+
+const EARLIER_DIMM: [Row; 4] = [
+    Row::Number("Physical Component Identifier", 2),
+    Row::Reserved(2),
+    Row::Number("Size of DIMM", 4),
+    Row::Hex("SMBIOS Handle", 4),
+];
+
 // What a device has after its flags, by its length: that of revision 2 of the table has 16 bytes.
-const SOCKET_FIELDS: [Choice; 1] = [Choice {
-    number: 16,
-    name: "Socket Fields",
-    rows: &DEVICE_SOCKET,
-}];
+const SOCKET_FIELDS: [Choice; 2] = [
+    Choice {
+        number: 16,
+        name: "Socket Fields",
+        rows: &DEVICE_SOCKET,
+    },
+    Choice {
+        number: 12,
+        name: "Socket Fields of Revision 1",
+        rows: &EARLIER_SOCKET,
+    },
+];
 
 const CONTROLLER_FIELDS: [Choice; 1] = [Choice {
     number: 16,
@@ -49,11 +66,18 @@ const CONTROLLER_FIELDS: [Choice; 1] = [Choice {
     rows: &DEVICE_CONTROLLER,
 }];
 
-const DIMM_FIELDS: [Choice; 1] = [Choice {
-    number: 16,
-    name: "DIMM Fields",
-    rows: &DEVICE_DIMM,
-}];
+const DIMM_FIELDS: [Choice; 2] = [
+    Choice {
+        number: 16,
+        name: "DIMM Fields",
+        rows: &DEVICE_DIMM,
+    },
+    Choice {
+        number: 20,
+        name: "DIMM Fields of Revision 1",
+        rows: &EARLIER_DIMM,
+    },
+];
 
 const SOCKET: [Row; 5] = [
     Row::Preset("Type", 1, 0),
@@ -128,8 +152,10 @@ const DEVICES: [StructureForm; 4] = [
     },
 ];
 
-/// The Platform Memory Topology Table (ACPI 6.5, 5.2.22). A device of another length is one of revision 1 of the table, which has
-/// other fields after the flags, and contains the devices below it. These have no names here.
+/// The Platform Memory Topology Table (ACPI 6.5, 5.2.22). A device of revision 1 of the table (ACPI 6.3, 5.2.21) has other fields
+/// after the flags. Those of a DIMM and of a socket without devices have names. In that revision a memory controller contains its
+/// proximity domains and the DIMMs below it, and a socket its controllers. What these contain, and the fields before it, have no
+/// names here. The names of revision 1 are written from memory.
 pub const PMTT: TableForm = TableForm {
     name: "Platform Memory Topology Table (PMTT)",
     parts: &[Part::Fields(&HEADER), Part::Fields(&PMTT_FIXED)],

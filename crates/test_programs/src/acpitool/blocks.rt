@@ -13,6 +13,7 @@ const OWNER: &[u8] = b"DSDT4\x00\x00\x00\x02VFOOBARCAFEDEAD\x01\x00\x00\x00RVAT\
 
 // The text of the block that calls, around the statements of its method.
 const BEFORE: &str = "\
+/*= Creator \"RVAT\", 0x01000000 */
 DefinitionBlock (\"\", \"SSDT\", 2, \"FOOBAR\", \"CAFEDEAD\", 0x00000001)
 {
     Method (CALL, 0, NotSerialized)

@@ -25,15 +25,39 @@ fn missing(rt: HostRuntime) -> Result<(), Fail> {
     )
 }
 
-// A file of a folder that isn't a table has a line, and an empty folder has none. In which order files are shown is compared for
-// the folder `data` of `acpitool`.
+// A file of a folder that isn't a table has a line. In which order files are shown is compared for the folder `data` of
+// `acpitool`.
 #[test]
 fn folder(rt: HostRuntime) -> Result<(), Fail> {
     fs::create_dir(&rt, "folder")?;
-    ends(&rt, &["show", "folder"], 0, &[], &[])?;
     write(&rt, "folder/c", &TABLE[..9])?;
     let line = "folder/c: at 9: a table has at least the 36 bytes of the standard header\n";
     ends(&rt, &["show", "folder"], 1, &[], &[line])
+}
+
+// A folder without files has a line, whatever is done with its tables, and nothing is written.
+#[test]
+fn folder_without_files(rt: HostRuntime) -> Result<(), Fail> {
+    fs::create_dir(&rt, "empty")?;
+    let line = "empty: no files in this folder\n";
+    ends(&rt, &["show", "empty"], 2, &[], &[line])?;
+    ends(&rt, &["show", "--json", "empty"], 2, &["[\n]\n"], &[line])?;
+    ends(&rt, &["check", "empty"], 2, &[], &[line])?;
+    ends(&rt, &["lay", "empty", "empty_image", "0"], 2, &[], &[line])?;
+    ends(&rt, &["cpio", "empty", "empty_image"], 2, &[], &[line])?;
+    ends(&rt, &["loader", "empty", "empty_image"], 2, &[], &[line])?;
+    equal(&fs::metadata(&rt, "empty_image").is_ok(), &false)
+}
+
+// A folder in a folder isn't read.
+#[test]
+fn folder_in_a_folder(rt: HostRuntime) -> Result<(), Fail> {
+    fs::create_dir(&rt, "outer")?;
+    fs::create_dir(&rt, "outer/a")?;
+    let line = "outer: no files in this folder\n";
+    ends(&rt, &["show", "outer"], 2, &[], &[line])?;
+    write(&rt, "outer/b", &TABLE)?;
+    ends(&rt, &["show", "outer"], 0, &["// outer/b\n", TEXT], &[])
 }
 
 // A link to nothing is a file that can't be read, and the other files of its folder are shown.

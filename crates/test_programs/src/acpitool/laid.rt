@@ -74,13 +74,25 @@ fn make_laid(rt: &HostRuntime) -> Result<(), Fail> {
     write(rt, "laid/xsdt", &XSDT)
 }
 
-// Makes the folder `printed` with the tables alone.
-fn make_printed(rt: &HostRuntime) -> Result<(), Fail> {
-    fs::create_dir(rt, "printed")?;
-    write(rt, "printed/dsdt", &DSDT)?;
-    write_padded(rt, "printed/fadt", &FADT, 148)?;
-    write_padded(rt, "printed/facs", &FACS, 64)?;
-    write(rt, "printed/table", &TABLE)
+// Writes a file of a folder with these first bytes, and zeros after them.
+fn write_in(
+    rt: &HostRuntime,
+    folder: &str,
+    name: &str,
+    front: &[u8],
+    size: usize,
+) -> Result<(), Fail> {
+    let path = format!(in rt.alloc(); "{folder}/{name}")?;
+    write_padded(rt, path.as_str(), front, size)
+}
+
+// Makes a folder with the tables alone.
+fn make_tables(rt: &HostRuntime, folder: &str) -> Result<(), Fail> {
+    fs::create_dir(rt, folder)?;
+    write_in(rt, folder, "dsdt", &DSDT, 36)?;
+    write_in(rt, folder, "fadt", &FADT, 148)?;
+    write_in(rt, folder, "facs", &FACS, 64)?;
+    write_in(rt, folder, "table", &TABLE, 36)
 }
 
 // The tables of the image.
@@ -108,6 +120,71 @@ fn laid(rt: HostRuntime) -> Result<(), Fail> {
     let wanted = joined(&rt, &LAID)?;
     same(&fs::read(&rt, "laid_image")?, &wanted)?;
     ends(&rt, &["image", "laid_image", "1c000000"], 0, &[LISTED], &[])
+}
+
+// The tables of the image of the folder `apart`, and its RSDP, are in two files. An RSDP doesn't have its own address, so it is the
+// one of the image.
+#[test]
+fn laid_apart(rt: HostRuntime) -> Result<(), Fail> {
+    make_tables(&rt, "apart")?;
+    let words = ["lay", "--rsdp", "e0000", "apart", "apart_image", "1c000000"];
+    ends(&rt, &words, 0, &["RSDP at 0xe0000\n"], &[])?;
+    let wanted = joined(&rt, &LAID)?;
+    let tables = wanted.get(..0x160).unwrap_or(&[]);
+    same(&fs::read(&rt, "apart_image")?, tables)?;
+    same(&fs::read(&rt, "apart_image.rsdp")?, &RSDP)
+}
+
+// Fails unless a run that lays the folder `beside` for the address 1c000000, with an RSDP at an address, has this status and these
+// texts.
+fn lays_beside(
+    rt: &HostRuntime,
+    rsdp: &str,
+    status: u8,
+    out: &[&str],
+    err: &[&str],
+) -> Result<(), Fail> {
+    let words = ["lay", "--rsdp", rsdp, "beside", "beside_image", "1c000000"];
+    ends(rt, &words, status, out, err)
+}
+
+// An RSDP is at a multiple of 16, apart from the tables, which end at 0x1c000160.
+#[test]
+fn not_apart(rt: HostRuntime) -> Result<(), Fail> {
+    make_tables(&rt, "beside")?;
+    let line = "beside_image: the address of an RSDP has to be a multiple of 0x10\n";
+    lays_beside(&rt, "e0008", 1, &[], &[line])?;
+    let line = "beside_image: the RSDP overlaps the tables\n";
+    lays_beside(&rt, "1bffffe0", 1, &[], &[line])?;
+    lays_beside(&rt, "1c000000", 1, &[], &[line])?;
+    lays_beside(&rt, "1c000150", 1, &[], &[line])?;
+    lays_beside(&rt, "1bffffd0", 0, &["RSDP at 0x1bffffd0\n"], &[])?;
+    lays_beside(&rt, "1c000160", 0, &["RSDP at 0x1c000160\n"], &[])
+}
+
+// Neither the image nor the RSDP replaces a table, and they go to two files.
+#[test]
+fn not_saved_apart(rt: HostRuntime) -> Result<(), Fail> {
+    fs::create_dir(&rt, "two_files")?;
+    write(&rt, "two_files/dsdt.rsdp", &DSDT)?;
+    let line = "two_files/dsdt.rsdp: the image would replace a table\n";
+    let words = ["lay", "--rsdp", "e0000", "two_files", "two_files/dsdt", "0"];
+    ends(&rt, &words, 1, &[], &[line])?;
+    let words = [
+        "lay",
+        "--rsdp",
+        "e0000",
+        "two_files",
+        "two_files/dsdt.rsdp",
+        "0",
+    ];
+    ends(&rt, &words, 1, &[], &[line])?;
+    let line = "-: the tables and the RSDP go to two files\n";
+    let words = ["lay", "--rsdp", "e0000", "two_files", "-", "0"];
+    ends(&rt, &words, 1, &[], &[line])?;
+    let line = "no_two: No such file or directory (os error 2)\n";
+    let words = ["lay", "--rsdp", "e0000", "no_two", "no_image", "0"];
+    ends(&rt, &words, 2, &[], &[line])
 }
 
 // The text of the DSDT.
@@ -229,6 +306,7 @@ fn refused(rt: &HostRuntime, base: &str, line: &str) -> Result<(), Fail> {
 fn not_laid(rt: HostRuntime) -> Result<(), Fail> {
     fs::create_dir(&rt, "steps")?;
     write(&rt, "steps_image", b"kept")?;
+    write(&rt, "steps/table", &TABLE)?;
     refused(&rt, "0", "steps: no DSDT\n")?;
     write(&rt, "steps/dsdt", &DSDT)?;
     refused(&rt, "0", "steps: no FADT\n")?;
@@ -327,7 +405,7 @@ fn not_saved(rt: HostRuntime) -> Result<(), Fail> {
 // Where the image goes to standard output, the line of its RSDP goes to standard error.
 #[test]
 fn laid_on_output(rt: HostRuntime) -> Result<(), Fail> {
-    make_printed(&rt)?;
+    make_tables(&rt, "printed")?;
     let mut printed = Vec::new(rt.alloc());
     let mut told = Vec::new(rt.alloc());
     let words = owned(&rt, &["lay", "printed", "-", "1c000000"])?;

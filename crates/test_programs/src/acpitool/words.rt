@@ -7,8 +7,8 @@ use std::test::Fail;
 const USAGE: &str = "\
 usage: acpitool show [--no-offsets] FILE .. [NAME=N ..] | show --json FILE .. | check [--json] FILE .. | diff FILE FILE \
 | disassemble FILE .. [NAME=N ..] | names [--json] FILE .. [NAME=N ..] | image [--json] FILE [BASE] \
-| make [--force] TEXT FILE | template SIGNATURE | unpack FILE FOLDER [BASE] | cpio FOLDER FILE | lay FOLDER FILE BASE \
-| loader FOLDER OUT | tree [--dot] FILE | --help | --version
+| make [--force] TEXT FILE | template SIGNATURE | unpack FILE FOLDER [BASE] | cpio FOLDER FILE \
+| lay [--rsdp ADDRESS] FOLDER FILE BASE | loader FOLDER OUT | tree [--dot] FILE | --help | --version
 ";
 
 // The template of a definition block.
@@ -108,6 +108,7 @@ fn wrong_places(rt: HostRuntime) -> Result<(), Fail> {
             (&["image", "x", "--json"], "--json\n"),
             (&["names", "x", "--json"], "--json\n"),
             (&["tree", "x", "--dot"], "--dot\n"),
+            (&["lay", "x", "--rsdp", "e0000", "y", "0"], "--rsdp\n"),
         ],
     )
 }
@@ -127,6 +128,25 @@ fn wrong_images(rt: HostRuntime) -> Result<(), Fail> {
                 "not an address in hexadecimal: z\n",
             ),
             (&["lay", "x", "y", "0", "z"], "unknown word z\n"),
+            (&["lay", "--rsdp"], "no address for the RSDP\n"),
+            (&["lay", "--rsdp", "e0000"], "no folder with tables\n"),
+            (&["lay", "--rsdp", "e0000", "x"], "no file for the image\n"),
+            (
+                &["lay", "--rsdp", "e0000", "x", "y"],
+                "no address for the image\n",
+            ),
+            (
+                &["lay", "--rsdp", "x", "y", "0"],
+                "not an address in hexadecimal: x\n",
+            ),
+            (
+                &["lay", "--rsdp", "e0000", "x", "y", "z"],
+                "not an address in hexadecimal: z\n",
+            ),
+            (
+                &["lay", "--rsdp", "e0000", "x", "y", "0", "z"],
+                "unknown word z\n",
+            ),
             (&["diff"], "no files to compare\n"),
             (&["diff", "x"], "no second file to compare\n"),
             (&["diff", "x", "y", "z"], "unknown word z\n"),

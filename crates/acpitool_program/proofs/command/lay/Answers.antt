@@ -1,32 +1,10 @@
-use Rattle.std.proofs.Common.{List, ℕ, String, Global, map, string_bytes, inl, inr}
-use Rattle.acpitool_program.proofs.Words.{three_are, fourth_word}
+use Rattle.std.proofs.Common.{map, string_bytes, refl, sym, ◌∙◌}
 use Rattle.acpitool_program.proofs.command.lay.Goals as goal
 
-pub returns-in-None : goal.returns-in-None
-returns-in-None c = λ all is.
-    let text : String Global → List ℕ = λ word. string_bytes word in
-    let third = three_are text c.args.words.now c.base-item.result c.as_str-word.result.now c.as_str-word.ensures.value c.base-item.is
-    c.in-len3.len_at_least c.in-len3.len_below in
-    inr (inr (record {
-      more = map text c.args.words.now;
-      after = (is, c.requires);
-      folder = third.0;
-      file = third.1;
-      is = third.2;
-      not = c.in-None.ensures;
-    }))
+pub returns-then-begins_with_rsdp : goal.returns-then-begins_with_rsdp
+returns-then-begins_with_rsdp c = λ all is. c.laid_apart.ensures all (is, c.requires)
 
-pub returns-in-len4-up : goal.returns-in-len4-up
-returns-in-len4-up c = λ all is.
-    let text : String Global → List ℕ = λ word. string_bytes word in
-    let fourth = fourth_word text c.args.words.now c.extra-item.result c.as_str-in-len4-up.result.now
-    c.as_str-in-len4-up.ensures.value c.extra-item.is c.in-len4-up.len_at_least in
-    inr (inr (inr (inr (inr (inr (inl (record {
-      more = map text c.args.words.now;
-      after = (is, c.requires);
-      folder = fourth.0;
-      file = fourth.1;
-      base = fourth.2;
-      others = fourth.3;
-      is = fourth.4;
-    })))))))
+pub returns-else-begins_with_rsdp : goal.returns-else-begins_with_rsdp
+returns-else-begins_with_rsdp c = λ all is.
+    c.laid.ensures all (map (λ word. string_bytes word) c.args.words.now) (is, c.requires)
+    (sym c.begins_with_rsdp.ensures ∙ c.if-begins_with_rsdp.false, refl)

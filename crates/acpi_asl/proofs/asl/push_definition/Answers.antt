@@ -1,6 +1,6 @@
 use Rattle.std.proofs.Common.{codes}
 use Rattle.acpi_asl.proofs.Pieces.{after_five}
-use Rattle.acpi_asl.proofs.asl.push_block_line.Goals as goal
+use Rattle.acpi_asl.proofs.asl.push_definition.Goals as goal
 
 pub returns : goal.returns
 returns c =

@@ -1,0 +1,35 @@
+-- What is wrong with a text, as it is printed.
+use Rattle.std.specs.Prelude.{ℕ, List, [], ◌∷◌, ◌++◌, map, codes}
+use Rattle.std.specs.Fmt.{decimal}
+use Rattle.acpi_read.specs.Report.{printable}
+use Rattle.acpi_compile.specs.declared.fault.Why.{Why}
+use Rattle.acpi_compile.specs.declared.fault.Why.TheVariants as why
+use Rattle.acpi_compile.specs.Squeeze.{squeezed, word_at, line_of}
+
+abbrev pub otherwise : List ℕ → List ℕ
+otherwise [] = codes "the ASL of the block ends here"
+otherwise (c ∷ word) = codes "the ASL of the block has " ++ map printable (c ∷ word)
+
+abbrev pub words : Why → List ℕ
+words why.Block = codes "a DefinitionBlock is expected, and nothing after it"
+words why.Unexpected = codes "not expected here"
+words why.Unfinished = codes "a parenthesis, a brace or a string has no end"
+words why.TooDeep = codes "nested too deep"
+words why.Arguments = codes "other arguments are expected"
+words why.Number = codes "a number is expected: 0x and 2, 4, 8 or 16 digits, or a count in decimal digits"
+words why.Text = codes "a string is expected, with as many characters as fit"
+words why.Word = codes "neither a keyword nor a name"
+words why.Keyword = codes "another keyword is expected"
+words why.Entry = codes "not an entry of a field"
+words why.Descriptor = codes "no macro of a resource descriptor, or other arguments are expected"
+words why.Note = codes "the note isn't known here"
+words why.TooLong = codes "a length or a number is too large"
+words (why.Otherwise word) = otherwise word.items
+
+abbrev pub place_text : List ℕ → List ℕ
+place_text [] = codes "at the end: "
+place_text (c ∷ word) = codes "at " ++ map printable (c ∷ word) ++ codes ": "
+
+-- what is wrong with a text after this many kept characters
+abbrev pub explained : ℕ → Why → List ℕ → List ℕ
+explained at why text = codes "line " ++ decimal (line_of at text) ++ codes ", " ++ place_text (word_at at (squeezed text)) ++ words why

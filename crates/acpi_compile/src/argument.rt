@@ -1,0 +1,80 @@
+//! The arguments of a term that aren't terms.
+
+use crate::fault::{AslError, Why, fault};
+use crate::name::name;
+use crate::node::Node;
+use crate::number::{decimal, string};
+use crate::word::{byte_of, dword_of, keyword_number, word_of};
+use acpi_asl::word::Keyword;
+use acpi_term::name_string::NameString;
+use std::alloc::Global;
+use std::str;
+
+/// The fault of a term with other arguments.
+pub fn wrong(node: &Node<'_>) -> AslError {
+    fault(node.at, Why::Arguments)
+}
+
+/// A name without lists.
+pub fn name_at(alloc: Global, node: &Node<'_>) -> Result<NameString, AslError> {
+    if !node.is_alone() {
+        return Err(fault(node.at, Why::Unexpected));
+    }
+    name(alloc, node.at, node.word)
+}
+
+/// The number of a keyword.
+pub fn keyword_at(keyword: Keyword, node: &Node<'_>) -> Result<u8, AslError> {
+    match keyword_number(keyword, node) {
+        Some(number) => Ok(number),
+        None => Err(fault(node.at, Why::Keyword)),
+    }
+}
+
+// A number in hexadecimal digits, which its bytes have.
+fn given<T: Copy>(node: &Node<'_>, number: Option<T>) -> Result<T, AslError> {
+    match number {
+        Some(number) => Ok(number),
+        None => Err(fault(node.at, Why::Number)),
+    }
+}
+
+/// A number of one byte.
+pub fn byte_at(node: &Node<'_>) -> Result<u8, AslError> {
+    given(node, byte_of(node))
+}
+
+/// A number of two bytes.
+pub fn word_at(node: &Node<'_>) -> Result<u16, AslError> {
+    given(node, word_of(node))
+}
+
+/// A number of four bytes.
+pub fn dword_at(node: &Node<'_>) -> Result<u32, AslError> {
+    given(node, dword_of(node))
+}
+
+/// A decimal number below a limit.
+pub fn below(node: &Node<'_>, limit: u8) -> Result<u8, AslError> {
+    match decimal(node.word) {
+        Some(number) if number < u32::from(limit) && node.is_alone() => Ok(number as u8),
+        _ => Err(fault(node.at, Why::Number)),
+    }
+}
+
+/// The bytes of a string in quotation marks.
+pub fn string_at(alloc: Global, node: &Node<'_>) -> Result<Vec<u8>, AslError> {
+    match string(alloc, node.word)? {
+        Some(bytes) if node.is_alone() => Ok(bytes),
+        _ => Err(fault(node.at, Why::Text)),
+    }
+}
+
+/// The same as characters of ASCII.
+pub fn text_at(alloc: Global, node: &Node<'_>) -> Result<String, AslError> {
+    let bytes = string_at(alloc, node)?;
+    match str::from_utf8(&bytes) {
+        Ok(text) => Ok(String::from_str(alloc, text)?),
+        Err(_) => Err(fault(node.at, Why::Text)),
+    }
+}

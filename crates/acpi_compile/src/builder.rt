@@ -1,0 +1,230 @@
+//! The nodes of a text without what a compiler skips.
+
+use crate::fault::{AslError, Why, fault};
+use crate::node::{Node, word_node};
+use crate::squeeze::is_word;
+use std::alloc::Global;
+
+/// Lists are nested at most this deep: a term at the depth that the reader reads has two lists.
+pub const MAX_LISTS: usize = 512;
+
+// A list that is read.
+#[derive(Drop)]
+struct List<'a> {
+    nodes: Vec<Node<'a>>,
+    // Whether it is in braces.
+    braces: bool,
+    // Whether a comma has been read.
+    commas: bool,
+    // Whether a node follows the last comma.
+    filled: bool,
+}
+
+// The nodes that are read so far: the lists that aren't closed, outermost first.
+#[derive(Drop)]
+struct Builder<'a> {
+    alloc: Global,
+    outer: Vec<List<'a>>,
+    inner: List<'a>,
+    // The note that belongs to the next word, or an empty one.
+    note: &'a [u8],
+}
+
+fn empty_list<'a>(alloc: Global, braces: bool) -> List<'a> {
+    List {
+        nodes: Vec::new(alloc),
+        braces,
+        commas: false,
+        filled: false,
+    }
+}
+
+impl<'a> Builder<'a> {
+    // Adds a word.
+    fn word(&mut self, at: usize, word: &'a [u8]) -> Result<(), AslError> {
+        if self.inner.filled && !self.inner.braces {
+            return Err(fault(at, Why::Unexpected));
+        }
+        self.inner.filled = true;
+        self.inner.nodes.push(word_node(at, self.note, word))?;
+        self.note = &[];
+        Ok(())
+    }
+
+    // Keeps a note for the next word.
+    fn keep(&mut self, at: usize, note: &'a [u8]) -> Result<(), AslError> {
+        if !self.note.is_empty() {
+            return Err(fault(at, Why::Note));
+        }
+        self.note = note;
+        Ok(())
+    }
+
+    // Adds an empty word, unless a node follows the last comma.
+    fn fill(&mut self, at: usize) -> Result<(), AslError> {
+        if !self.inner.filled {
+            self.inner.nodes.push(word_node(at, &[], &[]))?;
+        }
+        Ok(())
+    }
+
+    fn comma(&mut self, at: usize) -> Result<(), AslError> {
+        self.fill(at)?;
+        self.inner.commas = true;
+        self.inner.filled = false;
+        Ok(())
+    }
+
+    // Begins a list in parentheses or in braces.
+    fn open(&mut self, at: usize, braces: bool) -> Result<(), AslError> {
+        if self.outer.len() >= MAX_LISTS {
+            return Err(fault(at, Why::TooDeep));
+        }
+        if braces {
+            self.fill(at)?;
+            self.inner.filled = true;
+        }
+        if !self.inner.filled {
+            return Err(fault(at, Why::Unexpected));
+        }
+        let list = empty_list(self.alloc, braces);
+        self.outer.push(std::mem::replace(&mut self.inner, list))?;
+        Ok(())
+    }
+
+    // Ends the innermost list, which belongs to the last node of the list around it.
+    fn close(&mut self, at: usize, braces: bool) -> Result<(), AslError> {
+        if self.inner.commas {
+            self.fill(at)?;
+        }
+        let Some(outer) = self.outer.pop() else {
+            return Err(fault(at, Why::Unexpected));
+        };
+        let list = std::mem::replace(&mut self.inner, outer);
+        if list.braces != braces {
+            return Err(fault(at, Why::Unexpected));
+        }
+        let Some(mut node) = self.inner.nodes.pop() else {
+            return Err(fault(at, Why::Unexpected));
+        };
+        if braces && node.body.is_none() {
+            node.body = Some(list.nodes);
+        } else if !braces && node.is_alone() {
+            node.arguments = Some(list.nodes);
+        } else {
+            return Err(fault(at, Why::Unexpected));
+        }
+        self.inner.nodes.push(node)?;
+        Ok(())
+    }
+
+    // Adds a character that isn't part of a word.
+    fn mark(&mut self, at: usize, c: u8) -> Result<(), AslError> {
+        if !self.note.is_empty() {
+            return Err(fault(at, Why::Note));
+        }
+        match c {
+            b' ' => Ok(()),
+            b',' => self.comma(at),
+            b'(' => self.open(at, false),
+            b')' => self.close(at, false),
+            b'{' => self.open(at, true),
+            b'}' => self.close(at, true),
+            _ => Err(fault(at, Why::Unexpected)),
+        }
+    }
+}
+
+// What a character is part of.
+#[derive(Clone, Copy)]
+enum Part {
+    Mark,
+    // A word from a character on.
+    Word(usize),
+    // A string from a character on.
+    Text(usize),
+    // The same after a backslash.
+    Escape(usize),
+    // A note from a character on.
+    Note(usize),
+}
+
+// The part that a character begins.
+fn begun(i: usize, c: u8) -> Part {
+    match c {
+        b'"' => Part::Text(i),
+        b'/' => Part::Note(i),
+        _ if is_word(c) => Part::Word(i),
+        _ => Part::Mark,
+    }
+}
+
+// The characters from one to another.
+fn between(text: &[u8], from: usize, to: usize) -> &[u8] {
+    match text.get(from..to) {
+        Some(part) => part,
+        None => &[],
+    }
+}
+
+// Reads a character.
+fn step<'a>(
+    builder: &mut Builder<'a>,
+    text: &'a [u8],
+    part: Part,
+    i: usize,
+    c: u8,
+) -> Result<Part, AslError> {
+    match part {
+        Part::Text(from) if c == b'"' => {
+            builder.word(from, between(text, from, i.saturating_add(1)))?;
+            Ok(Part::Mark)
+        }
+        Part::Text(from) if c == b'\\' => Ok(Part::Escape(from)),
+        Part::Note(from) if c == b'/' && between(text, from, i).ends_with(b"*") => {
+            builder.keep(from, between(text, from, i.saturating_add(1)))?;
+            Ok(Part::Mark)
+        }
+        Part::Text(_) | Part::Note(_) => Ok(part),
+        Part::Escape(from) => Ok(Part::Text(from)),
+        Part::Word(_) if is_word(c) => Ok(part),
+        Part::Word(from) => {
+            builder.word(from, between(text, from, i))?;
+            begin(builder, i, c)
+        }
+        Part::Mark => begin(builder, i, c),
+    }
+}
+
+// Reads a character outside of words.
+fn begin(builder: &mut Builder<'_>, i: usize, c: u8) -> Result<Part, AslError> {
+    let part = begun(i, c);
+    if let Part::Mark = part {
+        builder.mark(i, c)?;
+    }
+    Ok(part)
+}
+
+/// The nodes of a text without what a compiler skips.
+pub fn nodes_of<'a>(alloc: Global, text: &'a [u8]) -> Result<Vec<Node<'a>>, AslError> {
+    let mut builder = Builder {
+        alloc,
+        outer: Vec::new(alloc),
+        inner: empty_list(alloc, true),
+        note: &[],
+    };
+    let mut part = Part::Mark;
+    'characters: for (i, c) in text.iter().enumerate() {
+        part = step(&mut builder, text, part, i, *c)?;
+    }
+    if let Part::Word(from) = part {
+        builder.word(from, between(text, from, text.len()))?;
+        part = Part::Mark;
+    }
+    match part {
+        Part::Mark if builder.outer.is_empty() && builder.note.is_empty() => Ok(
+            builder.inner.nodes,
+        ),
+        _ => Err(fault(text.len(), Why::Unfinished)),
+    }
+}

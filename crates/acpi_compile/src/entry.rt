@@ -1,0 +1,216 @@
+//! The entries of fields (ACPI 6.5, 19.6.46 and 20.2.5.2).
+
+use crate::fault::{AslError, Why, fault};
+use crate::item::item;
+use crate::name::{name, segment};
+use crate::node::{Node, list_of};
+use crate::number::{decimal, hex, least_bytes};
+use crate::word::{byte_of, is_keyword, keyword_number};
+use acpi_asl::word::Keyword;
+use acpi_term::row::least_width;
+use acpi_term::term::TermEntry;
+use std::alloc::Global;
+
+/// Entries, and how many bytes spell them.
+#[derive(Drop)]
+pub struct Entries {
+    pub entries: Vec<TermEntry>,
+    pub size: usize,
+    // The bit after them.
+    bit: u64,
+}
+
+fn wrong(node: &Node<'_>) -> AslError {
+    fault(node.at, Why::Entry)
+}
+
+impl Entries {
+    fn add(&mut self, entry: TermEntry, size: usize) -> Result<(), AslError> {
+        self.entries.push(entry)?;
+        self.size = self.size.saturating_add(size);
+        Ok(())
+    }
+
+    // Adds bits without a name.
+    fn reserved(&mut self, bits: u32) -> Result<(), AslError> {
+        self.bit = self.bit.saturating_add(u64::from(bits));
+        let width = least_width(bits as usize);
+        self.add(TermEntry::Reserved(bits, width), 1 + usize::from(width))
+    }
+
+    // Adds bits with a name, or without one.
+    fn bits(&mut self, name: &Node<'_>, node: &Node<'_>) -> Result<(), AslError> {
+        let Some(bits) = decimal(node.word) else {
+            return Err(wrong(node));
+        };
+        if !node.is_alone() {
+            return Err(wrong(node));
+        }
+        if name.is_absent() {
+            return self.reserved(bits);
+        }
+        let Some(segment) = segment(name.word) else {
+            return Err(wrong(name));
+        };
+        self.bit = self.bit.saturating_add(u64::from(bits));
+        let width = least_width(bits as usize);
+        self.add(
+            TermEntry::Named(segment, bits, width),
+            4 + usize::from(width),
+        )
+    }
+
+    // Adds bits up to a byte.
+    fn offset(&mut self, node: &Node<'_>) -> Result<(), AslError> {
+        let [argument] = list_of(&node.arguments) else {
+            return Err(wrong(node));
+        };
+        let Some(byte) = hex(argument.word) else {
+            return Err(wrong(argument));
+        };
+        let bits = byte.value.saturating_mul(8).saturating_sub(self.bit);
+        match u32::try_from(bits) {
+            Ok(bits) => self.reserved(bits),
+            Err(_) => Err(wrong(node)),
+        }
+    }
+
+    // Adds how the entries after it are accessed.
+    fn access(&mut self, node: &Node<'_>) -> Result<(), AslError> {
+        let [access, attribute] = list_of(&node.arguments) else {
+            return Err(wrong(node));
+        };
+        let Some(access) = keyword_number(Keyword::AccessType, access) else {
+            return Err(wrong(access));
+        };
+        if let [size] = list_of(&attribute.arguments) {
+            return self.extended(access, attribute, size);
+        }
+        let Some(attribute) = keyword_number(Keyword::AccessAttribute, attribute) else {
+            return Err(wrong(attribute));
+        };
+        self.add(TermEntry::AccessAs(access, attribute), 3)
+    }
+
+    // The same, with a length.
+    fn extended(
+        &mut self,
+        access: u8,
+        attribute: &Node<'_>,
+        size: &Node<'_>,
+    ) -> Result<(), AslError> {
+        let word = Node {
+            at: attribute.at,
+            note: &[],
+            word: attribute.word,
+            arguments: None,
+            body: None,
+        };
+        let Some(attribute) = keyword_number(Keyword::ExtendedAttribute, &word) else {
+            return Err(wrong(&word));
+        };
+        let Some(size) = byte_of(size) else {
+            return Err(wrong(size));
+        };
+        self.add(TermEntry::ExtendedAccessAs(access, attribute, size), 4)
+    }
+
+    // Adds the connection of the entries after it.
+    fn connection(&mut self, alloc: Global, node: &Node<'_>) -> Result<(), AslError> {
+        let [connection] = list_of(&node.arguments) else {
+            return Err(wrong(node));
+        };
+        if matches!(connection.word, b"Buffer") {
+            return self.raw(alloc, connection);
+        }
+        if is_keyword(connection.word) {
+            let bytes = item(alloc, connection)?;
+            let size = bytes.len() as u64;
+            return self.buffer(size, least_bytes(size), bytes);
+        }
+        let name = name(alloc, connection.at, connection.word)?;
+        let size = name.as_bytes().len();
+        self.add(TermEntry::Connection(name), size.saturating_add(1))
+    }
+
+    // Adds a connection by a buffer that is no macro's.
+    fn raw(&mut self, alloc: Global, node: &Node<'_>) -> Result<(), AslError> {
+        let [size] = list_of(&node.arguments) else {
+            return Err(wrong(node));
+        };
+        let Some((size, width)) = size_of(size) else {
+            return Err(wrong(size));
+        };
+        let mut bytes = Vec::new(alloc);
+        'bytes: for byte in list_of(&node.body) {
+            let Some(number) = byte_of(byte) else {
+                return Err(wrong(byte));
+            };
+            bytes.push(number)?;
+        }
+        self.buffer(size, width, bytes)
+    }
+
+    fn buffer(&mut self, size: u64, size_width: u8, bytes: Vec<u8>) -> Result<(), AslError> {
+        let content = bytes.len().saturating_add(1 + usize::from(size_width));
+        let width = least_width(content);
+        self.add(
+            TermEntry::ConnectionBuffer {
+                width,
+                size,
+                size_width,
+                bytes,
+            },
+            content.saturating_add(2 + usize::from(width)),
+        )
+    }
+}
+
+// A size, and how many bytes it has after its prefix.
+fn size_of(node: &Node<'_>) -> Option<(u64, u8)> {
+    match node.word {
+        b"Zero" => Some((0, 0)),
+        b"One" => Some((1, 0)),
+        word => {
+            let number = hex(word)?;
+            Some((number.value, number.width))
+        }
+    }
+}
+
+/// The entries of a list in braces.
+pub fn read_entries(alloc: Global, nodes: &[Node<'_>]) -> Result<Entries, AslError> {
+    let mut list = Entries {
+        entries: Vec::new(alloc),
+        size: 0,
+        bit: 0,
+    };
+    let mut before: Option<&Node<'_>> = None;
+    'entries: for node in nodes {
+        before = match before {
+            Some(name) => {
+                list.bits(name, node)?;
+                None
+            }
+            None => match node.word {
+                b"Offset" => {
+                    list.offset(node)?;
+                    None
+                }
+                b"AccessAs" => {
+                    list.access(node)?;
+                    None
+                }
+                b"Connection" => {
+                    list.connection(alloc, node)?;
+                    None
+                }
+                _ => Some(node),
+            },
+        };
+    }
+    match before {
+        Some(node) => Err(wrong(node)),
+        None => Ok(list),
+    }
+}

@@ -1,0 +1,168 @@
+//! Why a text isn't made into a definition block.
+
+ghost use Rattle.std.specs.Prelude.{◌≡◌, ◌++◌, map, codes, IfOk, OnOk, string_bytes};
+ghost use Rattle.acpi_read.specs.Report.{printable};
+ghost use Rattle.acpi_compile.specs.declared.fault.AslError.TheVariants.{Memory};
+ghost use Rattle.acpi_compile.specs.Fault.{words, otherwise, place_text, explained};
+ghost use Rattle.acpi_compile.specs.Squeeze.{line_of};
+
+use crate::squeeze::{line_of, squeezed, word_at};
+use acpi_base::error::Error;
+use acpi_read::report::push_shown;
+use std::alloc::{AllocError, AllocFailed, Global};
+
+/// What is wrong.
+#[derive(Debug, Drop)]
+pub enum Why {
+    /// There is no DefinitionBlock, or something follows it, or its signature isn't that of a definition block.
+    Block,
+    /// A parenthesis, a brace, a comma or a word isn't expected.
+    Unexpected,
+    /// A parenthesis, a brace or a string has no end.
+    Unfinished,
+    /// The lists are nested too deep.
+    TooDeep,
+    /// A term has other arguments.
+    Arguments,
+    /// A number has another form: `0x` and two, four, eight or sixteen hexadecimal digits, or decimal digits of a count.
+    Number,
+    /// A string has another form, or more characters than its place.
+    Text,
+    /// A word is neither a keyword nor a name.
+    Word,
+    /// A keyword isn't one of those of its argument.
+    Keyword,
+    /// An entry of a field has another form.
+    Entry,
+    /// A resource descriptor has no macro of this name, or the macro has other arguments.
+    Descriptor,
+    /// A note isn't known, or not here.
+    Note,
+    /// A list, a number or a table is too long.
+    TooLong,
+    /// The ASL of the block has this word here.
+    Otherwise(Vec<u8>),
+}
+
+/// What is wrong with a text, and how many characters are kept of the text before it.
+#[derive(Debug, Drop)]
+pub struct AslFault {
+    pub at: usize,
+    pub why: Why,
+}
+
+/// Why a text isn't made into a block.
+#[derive(Debug, Drop)]
+pub enum AslError {
+    Memory,
+    Fault(AslFault),
+}
+
+impl From<AllocError> for AslError {
+    ghost from_gives = { λ _ e. e ≡ Memory };
+
+    fn from(_e: AllocError) -> AslError {
+        AslError::Memory
+    }
+}
+
+impl<T: Drop> From<AllocFailed<T>> for AslError {
+    ghost from_gives = { λ _ e. e ≡ Memory };
+
+    fn from(_e: AllocFailed<T>) -> AslError {
+        AslError::Memory
+    }
+}
+
+/// A fault at a place.
+pub fn fault(at: usize, why: Why) -> AslError {
+    AslError::Fault(AslFault { at, why })
+}
+
+/// The error of writing terms, at a place.
+pub fn unwritten(at: usize, error: Error) -> AslError {
+    match error {
+        Error::Memory => AslError::Memory,
+        _ => fault(at, Why::TooLong),
+    }
+}
+
+impl Why {
+    // Adds what is wrong, as text.
+    fn push_words(&self, text: &mut String) -> Result<(), AllocError>
+        ensures { OnOk result (string_bytes text.new ≡ string_bytes text.old ++ words self.now) }
+    {
+        match self {
+            Why::Block => text.push_str("a DefinitionBlock is expected, and nothing after it"),
+            Why::Unexpected => text.push_str("not expected here"),
+            Why::Unfinished => text.push_str("a parenthesis, a brace or a string has no end"),
+            Why::TooDeep => text.push_str("nested too deep"),
+            Why::Arguments => text.push_str("other arguments are expected"),
+            Why::Number => text.push_str(
+                "a number is expected: 0x and 2, 4, 8 or 16 digits, or a count in decimal digits",
+            ),
+            Why::Text => text.push_str("a string is expected, with as many characters as fit"),
+            Why::Word => text.push_str("neither a keyword nor a name"),
+            Why::Keyword => text.push_str("another keyword is expected"),
+            Why::Entry => text.push_str("not an entry of a field"),
+            Why::Descriptor => text.push_str(
+                "no macro of a resource descriptor, or other arguments are expected",
+            ),
+            Why::Note => text.push_str("the note isn't known here"),
+            Why::TooLong => text.push_str("a length or a number is too large"),
+            Why::Otherwise(word) => push_otherwise(word, text),
+        }
+    }
+}
+
+// Adds the word that the ASL of a block has, or that it ends.
+fn push_otherwise(word: &[u8], text: &mut String) -> Result<(), AllocError>
+    ensures { OnOk result (string_bytes text.new ≡ string_bytes text.old ++ otherwise word.now) }
+{
+    if word.is_empty() {
+        return text.push_str("the ASL of the block ends here");
+    }
+    text.push_str("the ASL of the block has ")?;
+    push_shown(word, text)
+}
+
+#[tactic(auto, using(acpi_read::proofs::Texts::after_three))]
+fn push_at(word: &[u8], text: &mut String) -> Result<(), AllocError>
+    ensures { OnOk result (string_bytes text.new ≡ string_bytes text.old
+        ++ (codes "at " ++ map printable word.now ++ codes ": ")) }
+{
+    text.push_str("at ")?;
+    push_shown(word, text)?;
+    text.push_str(": ")
+}
+
+// Adds the word at which something is wrong.
+fn push_place(word: &[u8], text: &mut String) -> Result<(), AllocError>
+    ensures { OnOk result (string_bytes text.new ≡ string_bytes text.old ++ place_text word.now) }
+{
+    if word.is_empty() {
+        return text.push_str("at the end: ");
+    }
+    push_at(word, text)
+}
+
+impl AslFault {
+    /// Returns the number of the line on which a text is wrong, counted from 1.
+    pub fn line(&self, text: &[u8]) -> usize
+        ensures { result ≡ line_of self.now.at text.now }
+    {
+        line_of(self.at, text)
+    }
+
+    /// Returns what is wrong with a text, and where: the line, the word, and what was expected.
+    pub fn explain(&self, alloc: Global, text: &[u8]) -> Result<String, AllocError>
+        ensures { IfOk result (λ why. string_bytes why ≡ explained self.now.at self.now.why text.now) }
+    {
+        let kept = squeezed(alloc, text)?;
+        let line = self.line(text);
+        let mut why = format!(in alloc; "line {line}, ")?;
+        push_place(word_at(self.at, &kept), &mut why)?;
+        self.why.push_words(&mut why)?;
+        Ok(why)
+    }
+}

@@ -1,0 +1,298 @@
+//! Resource descriptors, made of their macros: the inverse of the tables that say how they are shown (ACPI 6.5, 6.4 and 19.2.8).
+
+use crate::fault::{AslError, Why, fault};
+use crate::node::{Node, list_of};
+use crate::number::{decimal, string};
+use crate::word::{byte_of, number_in, number_of};
+use acpi_asl::descriptor::{Bits, Braces, Check, Offset, Part, words};
+use acpi_asl::macros::{Descriptor, checks, descriptors, macro_word, parts, tail};
+use std::alloc::{AllocError, Global};
+
+/// The descriptor of a macro.
+pub fn descriptor(word: &[u8]) -> Option<Descriptor> {
+    'descriptors: for descriptor in descriptors() {
+        if macro_word(*descriptor).as_bytes() == word {
+            return Some(*descriptor);
+        }
+    }
+    None
+}
+
+// ---- the size of what is fixed
+
+fn offset_size(offset: Offset) -> usize {
+    match offset {
+        Offset::At(at) => usize::from(at),
+        Offset::Stated(at) => usize::from(at) + 2,
+        Offset::Entries => 5,
+        Offset::End => 0,
+    }
+}
+
+fn part_size(part: Part) -> usize {
+    match part {
+        Part::Word(bits, _) => bits.offset.saturating_add(1),
+        Part::Number(at, width) => usize::from(at) + usize::from(width),
+        Part::Blank => 0,
+        Part::Tag(_, _, at, width) => usize::from(at) + usize::from(width),
+        Part::Text(from, to) => offset_size(from).max(offset_size(to)),
+        Part::Index(at) | Part::Source(at) => offset_size(at),
+    }
+}
+
+fn check_size(check: Check) -> usize {
+    match check {
+        Check::Is(bits, _) | Check::Nonzero(bits) => bits.offset.saturating_add(1),
+        Check::Size(at) => usize::from(at) + 2,
+        Check::Pairs(from, to) | Check::Text(from, to) => offset_size(from).max(offset_size(to)),
+        Check::Source(at) => offset_size(at),
+    }
+}
+
+fn tail_size(tail: Braces) -> usize {
+    match tail {
+        Braces::Absent => 1,
+        Braces::Irqs => 3,
+        Braces::Channels => 2,
+        Braces::Dwords(from, _) | Braces::Pairs(from, _) | Braces::Bytes(from) => offset_size(from),
+    }
+}
+
+// The number of bytes before the lists and texts of a descriptor.
+fn fixed_size(descriptor: Descriptor) -> usize {
+    let mut size = tail_size(tail(descriptor));
+    'parts: for part in parts(descriptor) {
+        size = size.max(part_size(*part));
+    }
+    'checks: for check in checks(descriptor) {
+        size = size.max(check_size(*check));
+    }
+    size
+}
+
+// ---- bytes and bits
+
+fn put(item: &mut [u8], at: usize, byte: u8) {
+    if let Some(place) = item.get_mut(at) {
+        *place = byte;
+    }
+}
+
+fn add_bits(item: &mut [u8], at: usize, byte: u8) {
+    if let Some(place) = item.get_mut(at) {
+        *place |= byte;
+    }
+}
+
+fn shifted(value: u8, shift: u8) -> u8 {
+    match shift {
+        0 => value,
+        1 => value.wrapping_mul(2),
+        2 => value.wrapping_mul(4),
+        3 => value.wrapping_mul(8),
+        4 => value.wrapping_mul(16),
+        5 => value.wrapping_mul(32),
+        6 => value.wrapping_mul(64),
+        _ => value.wrapping_mul(128),
+    }
+}
+
+fn set_bits(item: &mut [u8], bits: Bits, value: u8) {
+    add_bits(item, bits.offset, shifted(value, bits.shift));
+}
+
+fn set_word(item: &mut [u8], at: usize, value: usize) {
+    put(item, at, (value % 256) as u8);
+    put(item, at.saturating_add(1), (value / 256 % 256) as u8);
+}
+
+fn set_number(item: &mut [u8], at: u8, width: u8, value: u64) {
+    let bytes = value.to_le_bytes();
+    'bytes: for (i, byte) in bytes.iter().enumerate() {
+        if i < usize::from(width) {
+            put(item, usize::from(at) + i, *byte);
+        }
+    }
+}
+
+// States that an offset is the end of what is there.
+fn state(item: &mut [u8], offset: Offset) {
+    if let Offset::Stated(at) = offset {
+        let end = item.len();
+        set_word(item, usize::from(at), end);
+    }
+}
+
+// ---- the list in braces
+
+// The bits of channels, of which the highest is below a limit.
+fn mask(nodes: &[Node<'_>], limit: u32) -> Option<u16> {
+    let mut mask: u16 = 0;
+    'channels: for node in nodes {
+        let channel = decimal(node.word)?;
+        if channel >= limit || !node.is_alone() {
+            return None;
+        }
+        mask |= 1u16.wrapping_shl(channel);
+    }
+    Some(mask)
+}
+
+// Adds numbers of this many bytes.
+fn push_numbers(nodes: &[Node<'_>], width: u8, item: &mut Vec<u8>) -> Result<bool, AllocError> {
+    'numbers: for node in nodes {
+        let Some(number) = number_of(node, width) else {
+            return Ok(false);
+        };
+        let bytes = number.to_le_bytes();
+        let (front, _) = bytes.split_at(usize::from(width.min(8)));
+        item.extend_from_slice(front)?;
+    }
+    Ok(true)
+}
+
+// Adds the list of a descriptor. Returns whether it has the right form.
+fn push_tail(tail: Braces, nodes: &[Node<'_>], item: &mut Vec<u8>) -> Result<bool, AllocError> {
+    match tail {
+        Braces::Absent => Ok(true),
+        Braces::Irqs => {
+            let Some(irqs) = mask(nodes, 16) else {
+                return Ok(false);
+            };
+            set_number(item, 1, 2, u64::from(irqs));
+            Ok(true)
+        }
+        Braces::Channels => {
+            let Some(channels) = mask(nodes, 8) else {
+                return Ok(false);
+            };
+            set_number(item, 1, 1, u64::from(channels));
+            Ok(true)
+        }
+        Braces::Dwords(..) => {
+            let Ok(count) = u8::try_from(nodes.len()) else {
+                return Ok(false);
+            };
+            put(item, 4, count);
+            push_numbers(nodes, 4, item)
+        }
+        Braces::Pairs(_, to) => {
+            let is_list = push_numbers(nodes, 2, item)?;
+            state(item, to);
+            Ok(is_list)
+        }
+        Braces::Bytes(_) => push_numbers(nodes, 1, item),
+    }
+}
+
+// ---- arguments
+
+// Adds the characters of a string and a zero. Returns whether it is a string.
+fn push_text(alloc: Global, node: &Node<'_>, item: &mut Vec<u8>) -> Result<bool, AllocError> {
+    match string(alloc, node.word)? {
+        Some(bytes) if node.is_alone() => {
+            item.extend_from_slice(&bytes)?;
+            item.push(0)?;
+            Ok(true)
+        }
+        _ => Ok(false),
+    }
+}
+
+// Adds an argument. Returns whether it has the right form.
+fn push_part(
+    alloc: Global,
+    part: Part,
+    node: &Node<'_>,
+    item: &mut Vec<u8>,
+) -> Result<bool, AllocError> {
+    match part {
+        Part::Word(bits, kind) => {
+            let Some(value) = number_in(words(kind), node.word) else {
+                return Ok(false);
+            };
+            set_bits(item, bits, value);
+            Ok(node.is_alone())
+        }
+        Part::Number(at, width) => {
+            let Some(value) = number_of(node, width) else {
+                return Ok(false);
+            };
+            set_number(item, at, width, value);
+            Ok(true)
+        }
+        Part::Blank => Ok(node.is_absent()),
+        Part::Tag(..) => Ok(node.is_alone()),
+        Part::Text(_, to) => {
+            let is_text = push_text(alloc, node, item)?;
+            state(item, to);
+            Ok(is_text)
+        }
+        Part::Index(_) | Part::Source(_) if node.is_absent() => Ok(true),
+        Part::Index(_) => {
+            let Some(index) = byte_of(node) else {
+                return Ok(false);
+            };
+            item.push(index)?;
+            Ok(true)
+        }
+        Part::Source(_) => push_text(alloc, node, item),
+    }
+}
+
+fn push_parts(
+    alloc: Global,
+    parts: &[Part],
+    nodes: &[Node<'_>],
+    item: &mut Vec<u8>,
+) -> Result<bool, AllocError> {
+    if parts.len() != nodes.len() {
+        return Ok(false);
+    }
+    'parts: for (part, node) in parts.iter().zip(nodes) {
+        if !push_part(alloc, *part, node, item)? {
+            return Ok(false);
+        }
+    }
+    Ok(true)
+}
+
+// ---- descriptors
+
+// A descriptor in which the bits that its checks name are set.
+fn fixed(alloc: Global, descriptor: Descriptor) -> Result<Vec<u8>, AllocError> {
+    let mut item = Vec::new(alloc);
+    item.resize(fixed_size(descriptor), 0)?;
+    'checks: for check in checks(descriptor) {
+        if let Check::Is(bits, value) = check {
+            set_bits(&mut item, *bits, *value);
+        }
+    }
+    Ok(item)
+}
+
+// States the number of bytes of a descriptor: in a small one the bits 0 to 2 of its tag are the number of those after the tag, and
+// in a large one two bytes after the tag are the number of those after them.
+fn set_size(item: &mut [u8]) {
+    let size = item.len();
+    match item.first() {
+        Some(tag) if *tag >= 0x80 => set_word(item, 1, size.saturating_sub(3)),
+        Some(_) => add_bits(item, 0, (size.saturating_sub(1) % 8) as u8),
+        None => {}
+    }
+}
+
+/// The bytes of the descriptor that a macro makes.
+pub fn item(alloc: Global, node: &Node<'_>) -> Result<Vec<u8>, AslError> {
+    let Some(descriptor) = descriptor(node.word) else {
+        return Err(fault(node.at, Why::Descriptor));
+    };
+    let mut item = fixed(alloc, descriptor)?;
+    let is_list = push_tail(tail(descriptor), list_of(&node.body), &mut item)?;
+    let arguments = list_of(&node.arguments);
+    if !push_parts(alloc, parts(descriptor), arguments, &mut item)? || !is_list {
+        return Err(fault(node.at, Why::Descriptor));
+    }
+    set_size(&mut item);
+    Ok(item)
+}

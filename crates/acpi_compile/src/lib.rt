@@ -1,0 +1,20 @@
+//! ASL as a text, made into the definition block that it is the ASL of (ACPI 6.5, chapter 19).
+#![tactic(auto)]
+
+mod argument;
+pub mod block;
+mod builder;
+mod constant;
+mod declaration;
+mod entry;
+pub mod fault;
+mod item;
+mod name;
+mod node;
+mod number;
+mod sized;
+mod squeeze;
+mod stated;
+mod template;
+mod term;
+mod word;
