@@ -3,6 +3,8 @@
 - `marks`: the text of a MADT of COUNT structures, whose lengths are question marks.
 - `references`: the text of a PPTT of COUNT processors, each of which refers to the one before it.
 - `methods`: a DSDT of COUNT methods, the last of which calls each.
+- `devices`: a DSDT of COUNT devices, each with an id, a number and resources, in 47 bytes.
+- `asl`: the ASL of COUNT such devices.
 - `image`: the image of COUNT tables besides FADT, FACS and DSDT, with the base 0.
 """
 
@@ -63,6 +65,25 @@ def methods(count):
     yield table(b"DSDT", body + frame(b"\x14", b"LAST\0" + b"".join(name + b"\0" for name in names)))
 
 
+def devices(count):
+    resources = b"\x47\x01\xf8\x03\xf8\x03\x00\x08\x22\x10\x00\x79\x00"
+    buffer = b"\x11" + bytes([len(resources) + 3]) + b"\x0a" + bytes([len(resources)]) + resources
+    body = b""
+    for index in range(count):
+        objects = b"\x08_HID\x0c\x41\xd0\x05\x01" + b"\x08_UID\x0b" + struct.pack("<H", index) + b"\x08_CRS" + buffer
+        body += b"\x5b\x82" + bytes([len(objects) + 5]) + name_of(index) + objects
+    yield table(b"DSDT", body)
+
+
+def asl(count):
+    yield 'DefinitionBlock ("", "DSDT", 2, "BENCH", "MANY", 0x00000001)\n{\n'
+    for index in range(count):
+        yield f"    Device ({name_of(index).decode()})\n    {{\n        Name (_HID, EisaId (\"PNP0501\"))\n"
+        yield f"        Name (_UID, 0x{index:04X})\n        Name (_CRS, ResourceTemplate ()\n        {{\n"
+        yield "            IO (Decode16, 0x03F8, 0x03F8, 0x00, 0x08, )\n            IRQNoFlags () {4}\n        })\n    }\n"
+    yield "}\n"
+
+
 def image(count):
     """RSDP, FACS and then the tables, each at a multiple of 64, with the XSDT at the end."""
     def fixed(dsdt):
@@ -85,5 +106,6 @@ def image(count):
     yield table(b"XSDT", struct.pack(f"<{len(entries) - 1}Q", *entries[1:]), 1)
 
 
-for part in {"marks": marks, "references": references, "methods": methods, "image": image}[sys.argv[1]](int(sys.argv[2])):
+kinds = {part.__name__: part for part in (marks, references, methods, devices, asl, image)}
+for part in kinds[sys.argv[1]](int(sys.argv[2])):
     sys.stdout.buffer.write(part if isinstance(part, bytes) else part.encode())

@@ -1,3 +1,4 @@
+pub mod Rooms
 pub mod Pieces
 pub mod Walks
 pub mod Externals

@@ -2,12 +2,13 @@
 use Rattle.std.proofs.Common.{◌≡◌, ℕ, ◌+◌, ◌<◌, ◌≤◌, Bool, true, false, List, [], ◌∷◌, ◌++◌, length, get_or, drop, refl, sym, ap, ◌∙◌, append_assoc}
 use Rattle.std.proofs.lemmas.List.{append-nil, length-append}
 use Rattle.acpi_read.proofs.Lines.{count_views}
-use Rattle.acpi_read.proofs.Texts.{dropped, past, after_two, after_three}
+use Rattle.acpi_read.proofs.Texts.{dropped, past, after_two, after_three, after_four}
 use Rattle.acpi_term.specs.declared.term.Term.{Term}
 use Rattle.acpi_term.specs.Tree.{Head, Terms, count}
 use Rattle.acpi_term.specs.View.{view, views, single, IsApart}
 use Rattle.acpi_asl.specs.declared.place.Place.{Place}
 use Rattle.acpi_asl.specs.Asl.{around, texts, whole, AreWritten}
+use Rattle.acpi_asl.specs.Note.{note}
 use Rattle.acpi_asl.specs.Opening.{opening}
 use Rattle.acpi_asl.specs.Place.{place, place_in, next, place_after, is_statement, is_left_out, depth_in, before, after, closed}
 use Rattle.acpi_asl.specs.Row.{rows}
@@ -57,14 +58,19 @@ module _ (p : Place) (d : ℕ) (ts : List Term) (i : ℕ) (left : Place) (old no
 
 pub one_written : (p : Place) (d : ℕ) (t : Term) (h : Head) (w : ℕ) (a b : List Term) → IsApart t h w a b → (out : Bool) (e : ℕ)
     → out ≡ is_left_out p h w → e ≡ depth_in p d
-    → (old one two new : List ℕ) → one ≡ old ++ before p out d → two ≡ one ++ whole p e (view t) → new ≡ two ++ after p d
+    → (old one two three new : List ℕ) → one ≡ old ++ before p out d → two ≡ one ++ note h w (views (a ++ b))
+    → three ≡ two ++ whole p e (view t) → new ≡ three ++ after p d
     → new ≡ old ++ texts p d (single (view t))
-one_written p d t h w a b apart out e out_is e_is old one two new q r s =
+one_written p d t h w a b apart out e out_is e_is old one two three new q noted r s =
     let v = view t in
     let out_here : out ≡ is_left_out p v.0 v.1 = out_is ∙ ap (λ (k : Head). is_left_out p k w) apart.head ∙ ap (is_left_out p v.0) apart.width in
-    after_three old (before p out d) (whole p e v) (after p d) one two new q r s
-    ∙ ap (λ (k : Bool). old ++ ((before p k d ++ whole p e v) ++ after p d)) out_here
-    ∙ ap (λ (k : ℕ). old ++ ((before p (is_left_out p v.0 v.1) d ++ whole p k v) ++ after p d)) e_is
+    let note_here : note h w (views (a ++ b)) ≡ note v.0 v.1 v.2 =
+    ap (note h w) apart.children ∙ ap (λ (k : Head). note k w v.2) apart.head ∙ ap (λ (k : ℕ). note v.0 k v.2) apart.width
+    in
+    after_four old (before p out d) (note h w (views (a ++ b))) (whole p e v) (after p d) one two three new q noted r s
+    ∙ ap (λ (k : Bool). old ++ (((before p k d ++ note h w (views (a ++ b))) ++ whole p e v) ++ after p d)) out_here
+    ∙ ap (λ (l : List ℕ). old ++ (((before p (is_left_out p v.0 v.1) d ++ l) ++ whole p e v) ++ after p d)) note_here
+    ∙ ap (λ (k : ℕ). old ++ (((before p (is_left_out p v.0 v.1) d ++ note v.0 v.1 v.2) ++ whole p k v) ++ after p d)) e_is
     ∙ ap (λ (l : List ℕ). old ++ l) (sym (append-nil _))
 
 module _ (p : Place) (t : Term) (h : Head) (w : ℕ) (a b : List Term) (apart : IsApart t h w a b) (special : Bool) (special_is : special ≡ is_special p h w (views (a ++ b))) where

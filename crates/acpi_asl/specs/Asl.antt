@@ -6,6 +6,7 @@ use Rattle.acpi_term.specs.Tree.{Head, Terms, end, term, count}
 use Rattle.acpi_term.specs.View.{Parts}
 use Rattle.acpi_asl.specs.declared.place.Body.TheVariants.{Statements}
 use Rattle.acpi_asl.specs.declared.place.Place.{Place}
+use Rattle.acpi_asl.specs.Note.{note}
 use Rattle.acpi_asl.specs.Number.{hex, string_text}
 use Rattle.acpi_asl.specs.Opening.{further, opening}
 use Rattle.acpi_asl.specs.Place.{place, place_in, in_braces, next, place_after, is_statement, is_left_out, depth_in}
@@ -24,6 +25,7 @@ abbrev pub texts : Place → ℕ → Terms → List ℕ
 texts p d end = []
 texts p d (term h w children others) =
     before p (is_left_out p h w) d
+    ++ note h w children
     ++ (if is_special p h w children then special_text p h w children (depth_in p d)
     else around (is_statement p) h w (count children) (depth_in p d)
     (texts (place_in p h (count children)) (depth_in p d) children))

@@ -1,4 +1,5 @@
 pub mod Number
+pub mod Note
 pub mod Eisa
 pub mod Name
 pub mod Word

@@ -11,6 +11,7 @@ ghost use Rattle.acpi_asl.specs.Opening.{further};
 ghost use Rattle.acpi_asl.specs.Row.{rows};
 ghost use Rattle.acpi_asl.specs.Place.{closed};
 
+use crate::note::push_note;
 use crate::number::push_string;
 use crate::opening::{push_further_decimal, push_further_hex, push_opening};
 use crate::place::{
@@ -61,6 +62,7 @@ fn push_term(place: Place, depth: usize, term: &Term, text: &mut String) -> Resu
     let left_out = is_left_out(place, parts.kind, parts.width);
     let inner = depth_in(place, depth)?;
     push_before(place, left_out, depth, inner, text)?;
+    push_note(parts, text)?;
     push_whole(place, inner, term, text)?;
     push_after(place, depth, text)?;
     Ok(())

@@ -6,7 +6,8 @@ use Rattle.acpi_base.specs.FurtherWalk.{table_walk_of}
 use Rattle.acpi_base.specs.declared.walk.Walk.{Walk}
 use Rattle.acpi_forms.specs.Kind.{kind_of, title_of}
 use Rattle.acpi_forms.specs.FurtherNames.{cdat_names, s3pt_names}
-use Rattle.acpi_forms.specs.Named.{Named, IsNamed, names_of, rsdp_names, facs_names}
+use Rattle.acpi_forms.specs.Layout.{names_in}
+use Rattle.acpi_forms.specs.Named.{Named, IsNamed, rsdp_names, facs_names}
 use Rattle.acpi_forms.specs.Walks.{cdat_walk, s3pt_walk}
 use Rattle.acpi_make.specs.declared.file_kind.FileKind.{FileKind}
 use Rattle.acpi_make.specs.declared.file_kind.FileKind.TheVariants.{Rsdp, Facs, Cdat, S3pt, Table}
@@ -37,7 +38,7 @@ AreLinesOf Rsdp bytes text = AreLinesBy rsdp_names None bytes text
 AreLinesOf Facs bytes text = AreLinesBy facs_names None bytes text
 AreLinesOf Cdat bytes text = AreLinesBy cdat_names (Some cdat_walk) bytes text
 AreLinesOf S3pt bytes text = AreLinesBy s3pt_names (Some s3pt_walk) bytes text
-AreLinesOf Table bytes text = AreLinesBy (names_of (field_at 0 4 bytes)) (table_walk_of (field_at 0 4 bytes)) bytes text
+AreLinesOf Table bytes text = AreLinesBy (names_in (field_at 0 4 bytes) bytes) (table_walk_of (field_at 0 4 bytes)) bytes text
 
 -- A table is right, and these lines are the rules that it breaks. Nothing else is said of bytes without a standard header.
 pub record AreFindings (bytes text : List ℕ) : Type 0 where

@@ -4,10 +4,11 @@ use Rattle.std.specs.List.{slice_range}
 use Rattle.std.specs.Str.{bytes_eq}
 use Rattle.acpi_base.specs.Fields.{row_name, row_width}
 use Rattle.acpi_base.specs.declared.row.Row.{Row}
-use Rattle.acpi_text.specs.Form.{number_at, find_choice}
+use Rattle.acpi_text.specs.Form.{number_at, size_between, find_choice}
 use Rattle.acpi_text.specs.declared.form.Choice.{Choice}
 use Rattle.acpi_text.specs.declared.form.Part.{Part}
 use Rattle.acpi_text.specs.declared.form.Part.TheVariants.{Fields, Between, Group, Entries, Numbers, Matrix, Bytes, Until, Chosen}
+use Rattle.acpi_text.specs.declared.form.Part.TheVariants.{BySize}
 use Rattle.acpi_c_calls.specs.declared.seek.Sought.{Sought}
 use Rattle.acpi_c_calls.specs.declared.seek.Sought.TheVariants.{Found, After, Open, Outside}
 
@@ -37,12 +38,19 @@ abbrev pub seek_choice : List ℕ → ℕ → ℕ → Option Choice → Sought
 seek_choice name limit at (Some choice) = seek_rows name limit at choice.rows.now
 seek_choice name limit at None = Open at
 
+-- the fields of a choice; without one, there are none
+abbrev pub seek_optional : List ℕ → ℕ → ℕ → Option Choice → Sought
+seek_optional name limit at (Some choice) = seek_rows name limit at choice.rows.now
+seek_optional name limit at None = After at
+
 -- the fields of a part of a structure; those of a list, or of any number of bytes, aren't sought
 abbrev pub seek_part : List ℕ → ℕ → List ℕ → ℕ → Part → Sought
 seek_part name limit whole at (Fields rows) = seek_rows name limit at rows.now
 seek_part name limit whole at (Between rows from to) = seek_rows name limit at (slice_range rows.now from to)
 seek_part name limit whole at (Group title rows) = seek_rows name limit at rows.now
 seek_part name limit whole at (Chosen by choices) = seek_choice name limit at (find_choice (number_at by whole) choices.now)
+seek_part name limit whole at (BySize from to choices) =
+    seek_optional name limit at (find_choice (size_between from to whole) choices.now)
 seek_part name limit whole at (Entries title count rows) = Open at
 seek_part name limit whole at (Numbers title w count) = Open at
 seek_part name limit whole at (Matrix title w rows columns) = Open at

@@ -3,7 +3,8 @@
 ghost use Rattle.std.specs.Prelude.{◌≡◌, ◌++◌, map, Some, None, IfOk, IfErr, OnOk, string_bytes};
 ghost use Rattle.acpi_base.specs.FurtherWalk.{table_walk_of};
 ghost use Rattle.acpi_forms.specs.FurtherNames.{cdat_names, s3pt_names};
-ghost use Rattle.acpi_forms.specs.Named.{Named, IsNamed, names_of, rsdp_names, facs_names};
+ghost use Rattle.acpi_forms.specs.Layout.{names_in};
+ghost use Rattle.acpi_forms.specs.Named.{Named, IsNamed, rsdp_names, facs_names};
 ghost use Rattle.acpi_forms.specs.Walks.{cdat_walk, s3pt_walk};
 ghost use Rattle.acpi_rules.specs.Finding.{noted};
 ghost use Rattle.acpi_c_calls.specs.Findings.{finding_line, finding_lines, AreLinesBy, AreFindings};
@@ -15,10 +16,11 @@ use crate::give::give;
 use crate::refused::Refused;
 use acpi_base::further_walk::table_walk_of;
 use acpi_base::walk::Walk;
-use acpi_forms::form::{facs_form, form_of, rsdp_form};
+use acpi_forms::form::{facs_form, rsdp_form};
 use acpi_forms::further::cdat::{cdat_form, cdat_walk};
 use acpi_forms::further::s3pt::{s3pt_form, s3pt_walk};
 use acpi_forms::kind::{kind_of, title_of};
+use acpi_forms::layout::form_in;
 use acpi_make::file_kind::FileKind;
 use acpi_read::pieces::signature_number;
 use acpi_read::report::push_shown;
@@ -102,10 +104,15 @@ fn performance_lines(alloc: Global, bytes: &[u8]) -> Result<Vec<u8>, Refused>
 
 // Returns the lines of the rules that a table of a signature breaks.
 fn table_lines(alloc: Global, signature: u32, bytes: &[u8]) -> Result<Vec<u8>, Refused>
-    ensures ok { IfOk result (λ text. AreLinesBy (names_of signature) (table_walk_of signature) bytes.now text.items) }
+    ensures ok { IfOk result (λ text. AreLinesBy (names_in signature bytes.now) (table_walk_of signature) bytes.now text.items) }
     ensures err { IfErr result (λ refused. refused ≡ by_memory) }
 {
-    lines_by(alloc, &form_of(signature), table_walk_of(signature), bytes)
+    lines_by(
+        alloc,
+        &form_in(signature, bytes),
+        table_walk_of(signature),
+        bytes,
+    )
 }
 
 // Returns the lines of the rules that bytes break.

@@ -1,11 +1,12 @@
 //! Fields that are sought by name: those that a structure has before its first list.
 
 ghost use Rattle.std.specs.Prelude.{◌≡◌, ◌≤◌, [], IfSome};
-ghost use Rattle.acpi_c_calls.specs.Seek.{is_wanted, seek_row, seek_rows, seek_choice, seek_part, seek_parts, IsWithin, fixed_end};
+ghost use Rattle.acpi_c_calls.specs.Seek.{is_wanted, seek_row, seek_rows, seek_choice, seek_optional, seek_part, seek_parts};
+ghost use Rattle.acpi_c_calls.specs.Seek.{IsWithin, fixed_end};
 
 use acpi_base::row::Row;
 use acpi_text::form::{Choice, Part};
-use acpi_text::part::{between, find_choice, number_at};
+use acpi_text::part::{between, find_choice, number_at, size_between};
 
 /// What a search for a field found.
 #[derive(Clone, Copy, Debug, PartialEq)]
@@ -69,6 +70,17 @@ fn seek_choice(name: &[u8], limit: usize, at: usize, choice: Option<Choice>) -> 
     }
 }
 
+fn seek_optional(name: &[u8], limit: usize, at: usize, choice: Option<Choice>) -> Sought
+    requires { at ≤ limit }
+    ensures is { result ≡ seek_optional name.now limit at choice }
+    ensures within { IsWithin limit result }
+{
+    match choice {
+        Some(choice) => seek_rows(name, limit, at, choice.rows),
+        None => Sought::After(at),
+    }
+}
+
 fn seek_part(name: &[u8], limit: usize, whole: &[u8], at: usize, part: &Part) -> Sought
     requires { at ≤ limit }
     ensures is { result ≡ seek_part name.now limit whole.now at part.now }
@@ -80,6 +92,14 @@ fn seek_part(name: &[u8], limit: usize, whole: &[u8], at: usize, part: &Part) ->
         Part::Group(_, rows) => seek_rows(name, limit, at, rows),
         Part::Chosen(by, choices) => {
             seek_choice(name, limit, at, find_choice(number_at(by, whole), choices))
+        }
+        Part::BySize(from, to, choices) => {
+            seek_optional(
+                name,
+                limit,
+                at,
+                find_choice(size_between(from, to, whole), choices),
+            )
         }
         Part::Entries(_, _, _)
         | Part::Numbers(_, _, _)

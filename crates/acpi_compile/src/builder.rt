@@ -26,7 +26,7 @@ struct Builder<'a> {
     alloc: Global,
     outer: Vec<List<'a>>,
     inner: List<'a>,
-    // The note that belongs to the next word, or an empty one.
+    // The notes that belong to the next word, one after another.
     note: &'a [u8],
 }
 
@@ -51,13 +51,9 @@ impl<'a> Builder<'a> {
         Ok(())
     }
 
-    // Keeps a note for the next word.
-    fn keep(&mut self, at: usize, note: &'a [u8]) -> Result<(), AslError> {
-        if !self.note.is_empty() {
-            return Err(fault(at, Why::Note));
-        }
-        self.note = note;
-        Ok(())
+    // Keeps the note from one character to another for the next word, with the notes before it.
+    fn keep(&mut self, text: &'a [u8], from: usize, to: usize) {
+        self.note = between(text, from.saturating_sub(self.note.len()), to);
     }
 
     // Adds an empty word, unless a node follows the last comma.
@@ -182,7 +178,7 @@ fn step<'a>(
         }
         Part::Text(from) if c == b'\\' => Ok(Part::Escape(from)),
         Part::Note(from) if c == b'/' && between(text, from, i).ends_with(b"*") => {
-            builder.keep(from, between(text, from, i.saturating_add(1)))?;
+            builder.keep(text, from, i.saturating_add(1));
             Ok(Part::Mark)
         }
         Part::Text(_) | Part::Note(_) => Ok(part),

@@ -55,9 +55,9 @@ pub fn constant(node: &Node<'_>) -> Option<Term> {
 // ---- buffers
 
 /// A buffer with this size.
-pub fn buffer(size: Sized, bytes: Vec<u8>) -> Result<Sized, AslError> {
+pub fn buffer(node: &Node<'_>, size: Sized, bytes: Vec<u8>) -> Result<Sized, AslError> {
     let content = bytes.len().saturating_add(size.size);
-    let (width, all) = frame(1, content);
+    let (width, all) = frame(node.length(), 1, content);
     Ok(Sized {
         term: Term::Buffer {
             width,
@@ -69,9 +69,9 @@ pub fn buffer(size: Sized, bytes: Vec<u8>) -> Result<Sized, AslError> {
 }
 
 // A buffer whose size is the number of its bytes.
-fn whole_buffer(bytes: Vec<u8>) -> Result<Sized, AslError> {
+fn whole_buffer(node: &Node<'_>, bytes: Vec<u8>) -> Result<Sized, AslError> {
     let count = bytes.len() as u64;
-    buffer(number(count, least_bytes(count)), bytes)
+    buffer(node, number(count, least_bytes(count)), bytes)
 }
 
 /// The bytes of a list in braces.
@@ -93,7 +93,7 @@ pub fn uuid(alloc: Global, node: &Node<'_>) -> Result<Sized, AslError> {
     };
     let mut written = Vec::new(alloc);
     written_by(text, append_value(&uuid, &mut written))?;
-    whole_buffer(Vec::from_slice(alloc, after(&written, 4))?)
+    whole_buffer(node, Vec::from_slice(alloc, after(&written, 4))?)
 }
 
 /// The number of an EISA id (ACPI 6.5, 19.6.37).
@@ -131,5 +131,5 @@ fn written_by(node: &Node<'_>, written: Result<(), Error>) -> Result<(), AslErro
 /// The buffer of a resource template (ACPI 6.5, 19.6.114).
 pub fn template_term(alloc: Global, node: &Node<'_>) -> Result<Sized, AslError> {
     let bytes = template(alloc, list_of(&node.body))?;
-    whole_buffer(bytes)
+    whole_buffer(node, bytes)
 }

@@ -11,6 +11,7 @@ pub mod fault;
 mod item;
 mod name;
 mod node;
+mod note;
 mod number;
 mod sized;
 mod squeeze;

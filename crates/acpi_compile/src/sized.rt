@@ -37,9 +37,12 @@ impl SizedList {
     }
 }
 
-/// The width of the PkgLength of this many bytes, and how many there are with it and an opcode.
-pub fn frame(code: usize, content: usize) -> (u8, usize) {
-    let width = least_width(content);
+/// The width of the PkgLength of this many bytes, unless another is stated, and how many bytes there are with it and an opcode.
+pub fn frame(stated: Option<u8>, code: usize, content: usize) -> (u8, usize) {
+    let width = match stated {
+        Some(width) => width,
+        None => least_width(content),
+    };
     (
         width,
         content

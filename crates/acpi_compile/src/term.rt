@@ -47,7 +47,11 @@ fn bank_field(context: &Context, depth: usize, node: &Node<'_>) -> Result<Sized,
     let value = term(context, depth, value)?;
     let Entries { entries, size, .. } = read_entries(alloc, list_of(&node.body))?;
     let names = plus(&name, plus(&bank, 1));
-    let (width, size) = frame(2, names.saturating_add(value.size).saturating_add(size));
+    let (width, size) = frame(
+        node.length(),
+        2,
+        names.saturating_add(value.size).saturating_add(size),
+    );
     Ok(Sized {
         term: Term::BankField {
             width,
@@ -138,19 +142,19 @@ fn scope(context: &Context, depth: usize, node: &Node<'_>) -> Result<Sized, AslE
     let content = plus(&name, body.size);
     match node.word {
         b"Scope" => {
-            let (width, size) = frame(1, content);
+            let (width, size) = frame(node.length(), 1, content);
             let body = body.terms;
             let term = Term::Scope { width, name, body };
             Ok(Sized { term, size })
         }
         b"Device" => {
-            let (width, size) = frame(2, content);
+            let (width, size) = frame(node.length(), 2, content);
             let body = body.terms;
             let term = Term::Device { width, name, body };
             Ok(Sized { term, size })
         }
         _ => {
-            let (width, size) = frame(2, content);
+            let (width, size) = frame(node.length(), 2, content);
             let body = body.terms;
             let term = Term::ThermalZone { width, name, body };
             Ok(Sized { term, size })
@@ -178,7 +182,7 @@ fn method(context: &Context, depth: usize, node: &Node<'_>) -> Result<Sized, Asl
     let serialized = is_serialized(serialized)?;
     let name = name_at(alloc, name)?;
     let body = statements(context, depth, list_of(&node.body))?;
-    let (width, size) = frame(1, plus(&name, 1).saturating_add(body.size));
+    let (width, size) = frame(node.length(), 1, plus(&name, 1).saturating_add(body.size));
     let body = body.terms;
     let term = match level {
         None => Term::Method {
@@ -211,7 +215,7 @@ fn processor(context: &Context, depth: usize, node: &Node<'_>) -> Result<Sized, 
     let length = byte_at(length)?;
     let name = name_at(alloc, name)?;
     let body = statements(context, depth, list_of(&node.body))?;
-    let (width, size) = frame(2, plus(&name, 6).saturating_add(body.size));
+    let (width, size) = frame(node.length(), 2, plus(&name, 6).saturating_add(body.size));
     Ok(Sized {
         term: Term::Processor {
             width,
@@ -235,7 +239,7 @@ fn power_resource(context: &Context, depth: usize, node: &Node<'_>) -> Result<Si
     let order = word_at(order)?;
     let name = name_at(alloc, name)?;
     let body = statements(context, depth, list_of(&node.body))?;
-    let (width, size) = frame(2, plus(&name, 3).saturating_add(body.size));
+    let (width, size) = frame(node.length(), 2, plus(&name, 3).saturating_add(body.size));
     Ok(Sized {
         term: Term::PowerResource {
             width,
@@ -258,10 +262,10 @@ fn package(context: &Context, depth: usize, node: &Node<'_>) -> Result<Sized, As
     };
     let elements = terms(context, depth, list_of(&node.body))?;
     match byte_of(count) {
-        Some(room) => counted_package(node, room, elements),
+        Some(room) if !node.is_var_package() => counted_package(node, room, elements),
         _ => {
             let count = term(context, depth, count)?;
-            let (width, size) = frame(1, count.size.saturating_add(elements.size));
+            let (width, size) = frame(node.length(), 1, count.size.saturating_add(elements.size));
             Ok(Sized {
                 term: Term::VarPackage {
                     width,
@@ -275,7 +279,7 @@ fn package(context: &Context, depth: usize, node: &Node<'_>) -> Result<Sized, As
 }
 
 fn counted_package(node: &Node<'_>, room: u8, elements: SizedList) -> Result<Sized, AslError> {
-    let (width, size) = frame(1, elements.size.saturating_add(1));
+    let (width, size) = frame(node.length(), 1, elements.size.saturating_add(1));
     let count = elements.terms.len();
     let elements = elements.terms;
     if count == usize::from(room) {
@@ -303,7 +307,7 @@ fn buffer_term(context: &Context, depth: usize, node: &Node<'_>) -> Result<Sized
     };
     let size = term(context, depth, size)?;
     let bytes = bytes_of(alloc, list_of(&node.body))?;
-    buffer(size, bytes)
+    buffer(node, size, bytes)
 }
 
 // ---- statements with a predicate
@@ -316,7 +320,7 @@ fn predicated(context: &Context, depth: usize, node: &Node<'_>) -> Result<Sized,
     };
     let predicate = term(context, depth, predicate)?;
     let body = statements(context, depth, list_of(&node.body))?;
-    let (width, size) = frame(1, predicate.size.saturating_add(body.size));
+    let (width, size) = frame(node.length(), 1, predicate.size.saturating_add(body.size));
     let predicate = Box::new(alloc, predicate.term)?;
     let body = body.terms;
     let term = match node.word {
@@ -340,7 +344,7 @@ fn otherwise(context: &Context, depth: usize, node: &Node<'_>) -> Result<Sized, 
         return Err(wrong(node));
     }
     let body = statements(context, depth, list_of(&node.body))?;
-    let (width, size) = frame(1, body.size);
+    let (width, size) = frame(node.length(), 1, body.size);
     Ok(Sized {
         term: Term::Else {
             width,
@@ -484,7 +488,7 @@ fn term(context: &Context, depth: usize, node: &Node<'_>) -> Result<Sized, AslEr
     let Some(depth) = depth.checked_sub(1) else {
         return Err(fault(node.at, Why::TooDeep));
     };
-    if !node.note.is_empty() {
+    if !node.has_known_note() {
         return Err(fault(node.at, Why::Note));
     }
     let alloc = context.alloc;
@@ -513,12 +517,30 @@ fn terms(context: &Context, depth: usize, nodes: &[Node<'_>]) -> Result<SizedLis
 
 // ---- statements
 
+// External statements of one block, and the width of its PkgLength if it is stated.
+#[derive(Drop)]
+struct Externals {
+    list: SizedList,
+    length: Option<u8>,
+}
+
+impl Externals {
+    // A block without statements.
+    fn new(alloc: Global, length: Option<u8>) -> Externals {
+        Externals {
+            list: SizedList::new(alloc),
+            length,
+        }
+    }
+}
+
 // Adds the block in which a compiler has External statements, if there are any: `If (Zero)` (ACPI 6.5, 19.6.44).
-fn flush(alloc: Global, externals: SizedList, list: &mut SizedList) -> Result<(), AslError> {
+fn flush(alloc: Global, block: Externals, list: &mut SizedList) -> Result<(), AslError> {
+    let externals = block.list;
     if externals.terms.is_empty() {
         return Ok(());
     }
-    let (width, size) = frame(1, externals.size.saturating_add(1));
+    let (width, size) = frame(block.length, 1, externals.size.saturating_add(1));
     let zero = Term::Number { value: 0, width: 0 };
     list.add(Sized {
         term: Term::If {
@@ -539,14 +561,18 @@ pub fn statements(
 ) -> Result<SizedList, AslError> {
     let alloc = context.alloc;
     let mut list = SizedList::new(alloc);
-    let mut externals = SizedList::new(alloc);
+    let mut externals = Externals::new(alloc, None);
     'nodes: for node in nodes {
         let sized = term(context, depth, node)?;
-        if matches!(node.word, b"External") {
-            externals.add(sized)?;
-        } else {
-            let block = std::mem::replace(&mut externals, SizedList::new(alloc));
+        let in_block = matches!(node.word, b"External") && !node.stands_alone();
+        // The note on a block stands before its first statement.
+        if !in_block || node.length().is_some() {
+            let block = std::mem::replace(&mut externals, Externals::new(alloc, node.length()));
             flush(alloc, block, &mut list)?;
+        }
+        if in_block {
+            externals.list.add(sized)?;
+        } else {
             list.add(sized)?;
         }
     }

@@ -8,7 +8,8 @@ use Rattle.acpi_text.specs.Structure.{all_forms}
 use Rattle.acpi_text.specs.Table.{table_text}
 use Rattle.acpi_text.specs.declared.form.TableForm.{TableForm}
 use Rattle.acpi_forms.specs.Name.{Named, IsNamed, kinds}
-use Rattle.acpi_forms.specs.Named.{find_form, find_named, names_of}
+use Rattle.acpi_forms.specs.Layout.{names_in}
+use Rattle.acpi_forms.specs.Named.{find_form, find_named}
 use Rattle.acpi_forms.specs.Written.{nothing}
 use Rattle.acpi_forms.specs.Shows.{IsTextOf}
 
@@ -68,12 +69,12 @@ pub text_is : (names : Named) (walk : Option Walk) (bytes : List ℕ) (form : Ta
 text_is names walk bytes form (Ok text) is shown = record { form = form; is_named = is; is = shown }
 text_is names walk bytes form (Err e) is shown = tt
 
--- a table's text by the form of its signature
+-- a table's text by the form of its signature and its bytes
 pub table_text_is : (s n : ℕ) (form : TableForm) (walk : Option Walk) (bytes shown : List ℕ) (result : Result (String Global) Error)
-    → s ≡ n → shown ≡ bytes → IsNamed form (names_of s) → walk ≡ table_walk_of s
+    → s ≡ n → shown ≡ bytes → IsNamed form (names_in s shown) → walk ≡ table_walk_of s
     → IfOk result (λ text. string_bytes text ≡ table_text form walk shown)
-    → IfOk result (λ text. IsTextOf (names_of n) (table_walk_of n) bytes (string_bytes text))
+    → IfOk result (λ text. IsTextOf (names_in n bytes) (table_walk_of n) bytes (string_bytes text))
 table_text_is s n form walk bytes shown result same is named way text =
     let P : List ℕ → Type 0 = λ l. IfOk result (λ made. string_bytes made ≡ table_text form (table_walk_of n) l) in
     let Q : Option Walk → Type 0 = λ w. IfOk result (λ made. string_bytes made ≡ table_text form w shown) in
-    text_is (names_of n) (table_walk_of n) bytes form result (subst (λ k. IsNamed form (names_of k)) same named) (subst P is (subst Q (way ∙ ap table_walk_of same) text))
+    text_is (names_in n bytes) (table_walk_of n) bytes form result (subst (λ l. IsNamed form (names_in n l)) is (subst (λ k. IsNamed form (names_in k shown)) same named)) (subst P is (subst Q (way ∙ ap table_walk_of same) text))

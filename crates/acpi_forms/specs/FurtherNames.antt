@@ -121,6 +121,14 @@ pmtt_kinds =
     ∷ (255, codes "Vendor Specific Memory Device")
     ∷ []
 
+-- PMTT of revision 1
+abbrev pub earlier_pmtt_kinds : List (ℕ × List ℕ)
+earlier_pmtt_kinds = (0, codes "Socket") ∷ (1, codes "Memory Controller") ∷ (2, codes "DIMM") ∷ []
+
+-- RISC-V IO Mapping Table (RIMT) of the specification
+abbrev pub specified_rimt_kinds : List (ℕ × List ℕ)
+specified_rimt_kinds = (0, codes "RISC-V IOMMU") ∷ (1, codes "PCIe Root Complex") ∷ (2, codes "Platform Device") ∷ []
+
 -- what a machine has when it boots
 abbrev pub boot_tables : List Named
 boot_tables =
@@ -215,6 +223,14 @@ memory_tables =
     ∷ only_read "MRRM" "Memory Range and Region Mapping Structure (MRRM)" (one_kind "Memory Range Entry")
     ∷ only_read "ERDT" "Enhanced Resource Director Technology Table (ERDT)" []
     ∷ []
+
+-- ---- second layouts of a signature
+
+abbrev pub earlier_pmtt_names : Named
+earlier_pmtt_names = only_read "PMTT" "Platform Memory Topology Table (PMTT) of revision 1" earlier_pmtt_kinds
+
+abbrev pub specified_rimt_names : Named
+specified_rimt_names = only_read "RIMT" "RISC-V IO Mapping Table (RIMT)" specified_rimt_kinds
 
 -- ---- tables without a standard header
 

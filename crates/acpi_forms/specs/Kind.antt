@@ -5,7 +5,8 @@ use Rattle.acpi_base.specs.Bytes.{field_at}
 use Rattle.acpi_base.specs.FurtherWalk.{table_walk_of}
 use Rattle.acpi_base.specs.declared.walk.Place.TheVariants.{Byte, Word, DWord}
 use Rattle.acpi_forms.specs.FurtherNames.{cdat_names, s3pt_names}
-use Rattle.acpi_forms.specs.Named.{names_of, rsdp_names, facs_names}
+use Rattle.acpi_forms.specs.Layout.{names_in}
+use Rattle.acpi_forms.specs.Named.{rsdp_names, facs_names}
 use Rattle.acpi_forms.specs.Shows.{IsTextOf}
 use Rattle.acpi_forms.specs.Walks.{cdat_walk, s3pt_walk}
 use Rattle.acpi_make.specs.declared.file_kind.FileKind.{FileKind}
@@ -45,4 +46,4 @@ IsTextBy Rsdp bytes text = IsTextOf rsdp_names None bytes text
 IsTextBy Facs bytes text = IsTextOf facs_names None bytes text
 IsTextBy Cdat bytes text = IsTextOf cdat_names (Some cdat_walk) bytes text
 IsTextBy S3pt bytes text = IsTextOf s3pt_names (Some s3pt_walk) bytes text
-IsTextBy Table bytes text = IsTextOf (names_of (field_at 0 4 bytes)) (table_walk_of (field_at 0 4 bytes)) bytes text
+IsTextBy Table bytes text = IsTextOf (names_in (field_at 0 4 bytes) bytes) (table_walk_of (field_at 0 4 bytes)) bytes text

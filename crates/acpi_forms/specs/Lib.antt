@@ -10,6 +10,7 @@ pub mod Name
 pub mod FurtherNames
 pub mod Walks
 pub mod Named
+pub mod Layout
 pub mod Shows
 pub mod Kind
 pub mod Makes

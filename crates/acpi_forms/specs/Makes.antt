@@ -22,6 +22,7 @@ use Rattle.acpi_make.specs.declared.item.Item.{Item}
 use Rattle.acpi_make.specs.declared.make.Made.{Made}
 use Rattle.acpi_text.specs.declared.form.TableForm.{TableForm}
 use Rattle.acpi_forms.specs.FurtherNames.{cdat_names, s3pt_names}
+use Rattle.acpi_forms.specs.Layout.{names_of_text}
 use Rattle.acpi_forms.specs.Named.{Named, IsNamed, names_of, rsdp_names, facs_names}
 use Rattle.acpi_forms.specs.Walks.{cdat_walk, s3pt_walk}
 
@@ -53,6 +54,14 @@ names_by Facs signature = facs_names
 names_by Cdat signature = cdat_names
 names_by S3pt signature = s3pt_names
 
+-- the same of the table of a text, which may have another layout
+abbrev pub names_by_text : FileKind → ℕ → List ℕ → List Item → Named
+names_by_text Table signature text parts = names_of_text signature text parts
+names_by_text Rsdp signature text parts = rsdp_names
+names_by_text Facs signature text parts = facs_names
+names_by_text Cdat signature text parts = cdat_names
+names_by_text S3pt signature text parts = s3pt_names
+
 abbrev pub walk_by : FileKind → ℕ → Option Walk
 walk_by Table signature = table_walk_of signature
 walk_by Rsdp signature = None
@@ -79,7 +88,7 @@ pub record IsMadeBy (names : Named) (walk : Option Walk) (file_kind : FileKind) 
 abbrev pub IsMadeAs : ℕ → List ℕ → List Item → Result Made MakeError → Type 0
 IsMadeAs signature text parts result =
     let kind = text_kind text parts signature in
-    IsMadeBy (names_by kind signature) (walk_by kind signature) kind text parts result
+    IsMadeBy (names_by_text kind signature text parts) (walk_by kind signature) kind text parts result
 
 abbrev pub IsRefused : Fault → Result Made MakeError → Type 0
 IsRefused wrong result = Gives {B = Made} (λ made. made) result (Err wrong)

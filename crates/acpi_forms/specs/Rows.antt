@@ -16,6 +16,7 @@ use Rattle.acpi_text.specs.declared.form.Inner.{Inner}
 use Rattle.acpi_text.specs.declared.form.Inner.TheVariants.{Nothing, Lists}
 use Rattle.acpi_text.specs.declared.form.Part.{Part}
 use Rattle.acpi_text.specs.declared.form.Part.TheVariants.{Fields, Between, Group, Entries, Numbers, Matrix, Bytes, Until, Chosen}
+use Rattle.acpi_text.specs.declared.form.Part.TheVariants.{BySize}
 use Rattle.acpi_text.specs.declared.form.TableForm.{TableForm}
 
 -- ---- the rows of a form
@@ -24,12 +25,14 @@ abbrev pub choice_rows : Option Choice → List Row
 choice_rows (Some choice) = choice.rows.now
 choice_rows None = []
 
--- The rows of a part, where the field that chooses has this number. Lists, matrices and bytes of any number have none.
+-- The rows of a part, where the field or the size that chooses has this number. Lists, matrices and bytes of any number have
+-- none.
 abbrev pub part_rows : ℕ → Part → List Row
 part_rows chosen (Fields rows) = rows.now
 part_rows chosen (Between rows from to) = slice_range rows.now from to
 part_rows chosen (Group name rows) = rows.now
 part_rows chosen (Chosen by choices) = choice_rows (find_choice chosen choices.now)
+part_rows chosen (BySize from to choices) = choice_rows (find_choice chosen choices.now)
 part_rows chosen (Entries name count rows) = []
 part_rows chosen (Numbers name w count) = []
 part_rows chosen (Matrix name w rows columns) = []

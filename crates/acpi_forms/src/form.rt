@@ -133,7 +133,7 @@ fn node_form(signature: u32) -> TableForm
 }
 
 /// Returns the form of the tables of a signature, which is given as a number, lowest byte first. A table of another signature
-/// has the form of a table that isn't known: its header.
+/// has the form of a table that isn't known: its header. Of a signature with two layouts it is the usual one, as `layout` says.
 #[rattlefmt::skip]
 pub fn form_of(signature: u32) -> TableForm
     ensures { IsNamed result (names_of signature) }

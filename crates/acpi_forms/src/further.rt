@@ -46,6 +46,7 @@ pub mod prmt;
 pub mod ras2;
 pub mod rasf;
 pub mod rgrt;
+pub mod rimt;
 pub mod rsdt;
 pub mod s3pt;
 pub mod sbst;

@@ -8,6 +8,7 @@ pub mod further;
 pub mod hest;
 pub mod kind;
 pub mod known;
+pub mod layout;
 pub mod lists;
 pub mod make;
 pub mod matrices;

@@ -1,14 +1,15 @@
-//! Tables from texts, by the forms of their signatures.
+//! Tables from texts, by their forms.
 
 ghost use Rattle.std.specs.Prelude.{◌≡◌, ◌≢◌, length, string_bytes, IfOk, MatchOption};
 ghost use Rattle.acpi_base.specs.Bytes.{carried};
-ghost use Rattle.acpi_forms.specs.Makes.{file_kind_of, text_kind, names_by, walk_by, IsMadeAs, IsMade};
+ghost use Rattle.acpi_forms.specs.Makes.{file_kind_of, text_kind, names_by, names_by_text, walk_by, IsMadeAs, IsMade};
 ghost use Rattle.acpi_forms.specs.Makes.{template_kind, signature_text, IsTemplateOf};
 ghost use Rattle.acpi_forms.specs.Named.{IsNamed};
 
 use crate::form::{facs_form, form_of, rsdp_form};
 use crate::further::cdat::{cdat_form, cdat_walk};
 use crate::further::s3pt::{s3pt_form, s3pt_walk};
+use crate::layout::form_of_text;
 use acpi_base::further_walk::table_walk_of;
 use acpi_base::walk::Walk;
 use acpi_make::fault::{Fault, MakeError, Wanted};
@@ -70,6 +71,19 @@ fn form_by(file_kind: FileKind, signature: u32) -> TableForm
     }
 }
 
+// Returns the form of the table of a text of a kind.
+fn form_by_text(file_kind: FileKind, signature: u32, text: &[u8], items: &[Item]) -> TableForm
+    ensures { IsNamed result (names_by_text file_kind signature text.now items.now) }
+{
+    match file_kind {
+        FileKind::Table => form_of_text(signature, text, items),
+        FileKind::Rsdp => rsdp_form(),
+        FileKind::Facs => facs_form(),
+        FileKind::Cdat => cdat_form(),
+        FileKind::S3pt => s3pt_form(),
+    }
+}
+
 fn walk_by(file_kind: FileKind, signature: u32) -> Option<Walk>
     ensures { result ≡ walk_by file_kind signature }
 {
@@ -82,19 +96,24 @@ fn walk_by(file_kind: FileKind, signature: u32) -> Option<Walk>
     }
 }
 
-// Returns the table of a text by its kind and its signature.
+// Returns the table of a text by its kind, its signature and its layout.
 fn make_as(alloc: Global, signature: u32, text: &[u8], items: &[Item]) -> Result<Made, MakeError>
     ensures { IsMadeAs signature text.now items.now result }
 {
     let file_kind = text_kind(text, items, signature);
-    let form = form_by(file_kind, signature);
+    let form = form_by_text(file_kind, signature, text, items);
     let walk = walk_by(file_kind, signature);
     make_of(alloc, form, walk, file_kind, text, items)
 }
 
 /// Returns the table that a text is made into: its bytes, and its own numbers that the text states otherwise. The form of the
-/// table is that of its signature. A text whose first field is called `Length`, and that has a line `Sequence`, is that of a Coherent
-/// Device Attribute Table, which has no signature. The error is that memory ran out, or what is wrong with the text, and where.
+/// table is that of its signature, and of its layout if the signature has two:
+///
+/// - The text of a RIMT that has a line `Offset to RIMT Node Array` is that of a table of the RISC-V specification.
+/// - The text of a PMTT that has no line `Number of Memory Devices` is that of a table of revision 1.
+///
+/// A text whose first field is called `Length`, and that has a line `Sequence`, is that of a Coherent Device Attribute Table,
+/// which has no signature. The error is that memory ran out, or what is wrong with the text, and where.
 pub fn make(alloc: Global, text: &[u8]) -> Result<Made, MakeError>
     ensures { IsMade text.now result }
 {

@@ -1,19 +1,21 @@
-//! The texts of tables and records, by the forms of their signatures.
+//! The texts of tables and records, by their forms.
 
 ghost use Rattle.std.specs.Prelude.{◌≡◌, Some, None, IfOk, IfErr, string_bytes};
 ghost use Rattle.acpi_base.specs.Bytes.{field_at};
 ghost use Rattle.acpi_base.specs.FurtherWalk.{table_walk_of};
 ghost use Rattle.acpi_base.specs.declared.error.Error.TheVariants.{Memory};
 ghost use Rattle.acpi_forms.specs.FurtherNames.{cdat_names, s3pt_names};
-ghost use Rattle.acpi_forms.specs.Named.{names_of, rsdp_names, facs_names};
+ghost use Rattle.acpi_forms.specs.Layout.{names_in};
+ghost use Rattle.acpi_forms.specs.Named.{rsdp_names, facs_names};
 ghost use Rattle.acpi_forms.specs.Shows.{IsTextOf};
 ghost use Rattle.acpi_forms.specs.Walks.{cdat_walk, s3pt_walk};
 ghost use Rattle.acpi_text.specs.Reading.{bytes_of};
 ghost use Rattle.acpi_text.specs.Table.{table_text};
 
-use crate::form::{facs_form, form_of, rsdp_form};
+use crate::form::{facs_form, rsdp_form};
 use crate::further::cdat::{cdat_form, cdat_walk};
 use crate::further::s3pt::{s3pt_form, s3pt_walk};
+use crate::layout::form_in;
 use acpi_base::error::R;
 use acpi_base::further_walk::table_walk_of;
 use acpi_base::walk::Walk;
@@ -35,17 +37,18 @@ fn text_by(alloc: Global, form: &TableForm, walk: Option<Walk>, bytes: &[u8]) ->
 /// Returns the text of a table: its name, a line for each field and each structure, and all other bytes in lines of sixteen.
 /// The text determines the table. The only error is Memory.
 pub fn show(alloc: Global, table: &Table) -> R<String>
-    ensures text { IfOk result (λ text. IsTextOf (names_of (field_at 0 4 table.now)) (table_walk_of (field_at 0 4 table.now))
-        table.now (string_bytes text)) }
+    ensures text { IfOk result (λ text. IsTextOf (names_in (field_at 0 4 table.now) table.now)
+        (table_walk_of (field_at 0 4 table.now)) table.now (string_bytes text)) }
     ensures bytes { IfOk result (λ text. bytes_of (string_bytes text) ≡ table.now) }
     ensures err { IfErr result (λ e. e ≡ Memory) }
 {
     let signature = signature_number(table);
+    let bytes = table.bytes();
     text_by(
         alloc,
-        &form_of(signature),
+        &form_in(signature, bytes),
         table_walk_of(signature),
-        table.bytes(),
+        bytes,
     )
 }
 

@@ -89,6 +89,7 @@ part_entries (parts.Matrix name w rows columns) = open_entry name.now w looks.nu
 part_entries (parts.Bytes name count) = open_entry name.now 1 looks.text ∷ []
 part_entries (parts.Until name end) = open_entry name.now 1 looks.text ∷ []
 part_entries (parts.Chosen by choices) = flat_map choice_entries choices.now
+part_entries (parts.BySize from to choices) = flat_map choice_entries choices.now
 
 abbrev pub parts_entries : List Part → List Entry
 parts_entries list = flat_map part_entries list

@@ -14,6 +14,7 @@ use Rattle.acpi_text.specs.declared.form.Count.{Count}
 use Rattle.acpi_text.specs.declared.form.Count.TheVariants.{Field, Rest, Once}
 use Rattle.acpi_text.specs.declared.form.Part.{Part}
 use Rattle.acpi_text.specs.declared.form.Part.TheVariants.{Fields, Between, Group, Entries, Numbers, Matrix, Bytes, Until, Chosen}
+use Rattle.acpi_text.specs.declared.form.Part.TheVariants.{BySize}
 use Rattle.acpi_text.specs.declared.form.StructureForm.{StructureForm}
 use Rattle.acpi_make.specs.Draft.{is_nameless}
 use Rattle.acpi_make.specs.Entry.{is_line_of, or_else}
@@ -123,6 +124,7 @@ part_name (Matrix name w rows columns) = Some name.now
 part_name (Bytes name count) = Some name.now
 part_name (Until name end) = Some name.now
 part_name (Chosen by choices) = None
+part_name (BySize from to choices) = None
 
 abbrev pub line_of : List ℕ → List Mark → ℕ → Option (List ℕ) → Option (ℕ × ℕ)
 line_of text marks total (Some name) = if is_nameless name then None else find_line text name marks total
@@ -153,6 +155,7 @@ part_own text marks total start size (Until name end) next =
     if is_nameless name.now then gap_own start size end (line_of_parts text marks total next)
     else end_own start size end (find_line text name.now marks total)
 part_own text marks total start size (Chosen by choices) next = []
+part_own text marks total start size (BySize from to choices) next = []
 
 abbrev pub parts_own : List ℕ → List Mark → ℕ → ℕ → ℕ → List Part → List Own
 parts_own text marks total start size [] = []

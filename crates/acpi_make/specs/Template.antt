@@ -188,6 +188,7 @@ part_lines depth known at (parts.Bytes name count) = field_line depth name.now (
 part_lines depth known at (parts.Until name end) =
     if is_nameless name.now then [] else field_line depth name.now (codes " \"\"")
 part_lines depth known at (parts.Chosen by choices) = choice_lines depth known at choices.now
+part_lines depth known at (parts.BySize from to choices) = choice_lines depth known at choices.now
 
 abbrev pub part_end : ℕ → Part → ℕ
 part_end at (parts.Fields rows) = rows_end at rows.now
@@ -199,6 +200,7 @@ part_end at (parts.Matrix name w rows columns) = offset_after at w
 part_end at (parts.Bytes name count) = at
 part_end at (parts.Until name end) = at
 part_end at (parts.Chosen by choices) = choice_end at choices.now
+part_end at (parts.BySize from to choices) = choice_end at choices.now
 
 abbrev pub parts_lines : ℕ → Known → ℕ → List Part → List ℕ
 parts_lines depth known at [] = []
@@ -229,6 +231,7 @@ count_at (parts.Matrix name w rows columns) = []
 count_at (parts.Bytes name count) = place_at count
 count_at (parts.Until name end) = place_at end
 count_at (parts.Chosen by choices) = []
+count_at (parts.BySize from to choices) = []
 
 abbrev pub counts_at : List Part → List ℕ
 counts_at list = flat_map count_at list

@@ -244,7 +244,9 @@ fn search_part(number: usize, least: usize, line: &[u8], part: &Part) -> Search
         }
         Part::Bytes(name, _) => search_open(number, least, line, name, 1, Look::Text),
         Part::Until(name, _) => search_open(number, least, line, name, 1, Look::Text),
-        Part::Chosen(_, choices) => search_choices(number, least, line, choices),
+        Part::Chosen(_, choices) | Part::BySize(_, _, choices) => search_choices(
+            number, least, line, choices,
+        ),
     }
 }
 

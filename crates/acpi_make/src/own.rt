@@ -208,6 +208,7 @@ fn part_name(part: &Part) -> Option<&'static str>
         | Part::Bytes(name, _)
         | Part::Until(name, _) => Some(name),
         Part::Fields(_) | Part::Between(_, _, _) | Part::Chosen(_, _) => None,
+        Part::BySize(_, _, _) => None,
     }
 }
 
@@ -293,7 +294,7 @@ fn push_part(
             )
         }
         Part::Fields(_) | Part::Between(_, _, _) => Ok(()),
-        Part::Group(_, _) | Part::Chosen(_, _) => Ok(()),
+        Part::Group(_, _) | Part::Chosen(_, _) | Part::BySize(_, _, _) => Ok(()),
     }
 }
 

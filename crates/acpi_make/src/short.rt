@@ -59,7 +59,8 @@ fn part_room(size: usize, part: &Part) -> Fit
         | Part::Matrix(_, _, _, _)
         | Part::Bytes(_, _)
         | Part::Until(_, _)
-        | Part::Chosen(_, _) => Fit::Depends,
+        | Part::Chosen(_, _)
+        | Part::BySize(_, _, _) => Fit::Depends,
     }
 }
 

@@ -432,7 +432,9 @@ fn push_part(
         Part::Bytes(name, _) => push_empty(depth, name, text),
         Part::Until(name, _) if is_nameless(name.as_bytes()) => Ok(()),
         Part::Until(name, _) => push_empty(depth, name, text),
-        Part::Chosen(_, choices) => push_choice(depth, known, at, choices, text),
+        Part::Chosen(_, choices) | Part::BySize(_, _, choices) => push_choice(
+            depth, known, at, choices, text,
+        ),
     }
 }
 
@@ -449,7 +451,7 @@ fn part_end(at: usize, part: &Part) -> usize
         Part::Matrix(_, width, _, _) => offset_after(at, width),
         Part::Bytes(_, _) => at,
         Part::Until(_, _) => at,
-        Part::Chosen(_, choices) => choice_end(at, choices),
+        Part::Chosen(_, choices) | Part::BySize(_, _, choices) => choice_end(at, choices),
     }
 }
 
@@ -511,7 +513,7 @@ fn push_count(part: &Part, own: &mut Vec<usize>) -> Result<(), AllocError>
         Part::Bytes(_, place) => push_place(place, own),
         Part::Until(_, place) => push_place(place, own),
         Part::Fields(_) | Part::Between(_, _, _) | Part::Group(_, _) => Ok(()),
-        Part::Matrix(_, _, _, _) | Part::Chosen(_, _) => Ok(()),
+        Part::Matrix(_, _, _, _) | Part::Chosen(_, _) | Part::BySize(_, _, _) => Ok(()),
     }
 }
 
@@ -535,7 +537,7 @@ fn push_sides(part: &Part, ones: &mut Vec<usize>) -> Result<(), AllocError>
         }
         Part::Fields(_) | Part::Between(_, _, _) | Part::Group(_, _) => Ok(()),
         Part::Entries(_, _, _) | Part::Numbers(_, _, _) | Part::Bytes(_, _) => Ok(()),
-        Part::Until(_, _) | Part::Chosen(_, _) => Ok(()),
+        Part::Until(_, _) | Part::Chosen(_, _) | Part::BySize(_, _, _) => Ok(()),
     }
 }
 

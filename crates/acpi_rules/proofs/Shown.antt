@@ -10,7 +10,7 @@ use Rattle.acpi_base.specs.Look as looks
 use Rattle.acpi_base.specs.declared.row.Row.{Row}
 use Rattle.acpi_base.specs.declared.row.Row.TheVariants as rows
 use Rattle.acpi_base.specs.declared.walk.Sizes.{Sizes}
-use Rattle.acpi_text.specs.Form.{number_at, count_of, find_choice}
+use Rattle.acpi_text.specs.Form.{number_at, count_of, size_between, find_choice}
 use Rattle.acpi_text.specs.Names as names
 use Rattle.acpi_text.specs.Piece.{SizeOf, OfBytes, piece_and, pieces_then, front_then}
 use Rattle.acpi_text.specs.Size.{front_size, start_in, inner_form, inner_size}
@@ -25,7 +25,7 @@ use Rattle.acpi_text.specs.declared.form.Part.{Part}
 use Rattle.acpi_text.specs.declared.form.Part.TheVariants as parts
 use Rattle.acpi_rules.proofs.Found.{all_none}
 use Rattle.acpi_rules.specs.Field.{Field, Wanted, sized, until, unnamed, row_wanted, rows_wanted, times, choice_wanted}
-use Rattle.acpi_rules.specs.Field.{part_wanted}
+use Rattle.acpi_rules.specs.Field.{optional_wanted, part_wanted}
 use Rattle.acpi_rules.specs.Field.{Found, ended, after_field, after_all, from, parts_fields, Structure, structure_and}
 use Rattle.acpi_rules.specs.Field.{structures_up_to, structures_of, no_fields, fields_by_form, inner_fields, lists_fields, content_fields, structure_fields}
 use Rattle.acpi_rules.specs.Laws.{plain, FieldsAreShown}
@@ -71,6 +71,10 @@ unfolding forget
 choice_same (Some choice) = rows_same choice.rows.now
 choice_same None = refl
 
+optional_same : (choice : Option Choice) → map forget (optional_wanted choice) ≡ names.optional_fields choice
+optional_same (Some choice) = rows_same choice.rows.now
+optional_same None = refl
+
 lists_same : (b : Bool) (n : ℕ) (wanted : List Wanted) (fields : List names.Wanted) → map forget wanted ≡ fields
     → map forget (cond b [] (times n wanted)) ≡ cond b [] (names.times n fields)
 lists_same true n wanted fields same = refl
@@ -93,6 +97,7 @@ part_same start whole (parts.Matrix name w rows columns) =
 part_same start whole (parts.Bytes name count) = refl
 part_same start whole (parts.Until name end) = refl
 part_same start whole (parts.Chosen by choices) = choice_same (find_choice (number_at by whole) choices.now)
+part_same start whole (parts.BySize from to choices) = optional_same (find_choice (size_between from to whole) choices.now)
 
 parts_same : (start : ℕ) (whole : List ℕ) (parts : List Part)
     → map forget (flat_map (part_wanted start whole) parts) ≡ flat_map (names.part_fields start whole) parts

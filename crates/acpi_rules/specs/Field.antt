@@ -11,7 +11,7 @@ use Rattle.acpi_base.specs.declared.row.Row.TheVariants as rows
 use Rattle.acpi_base.specs.declared.walk.Place.{Place}
 use Rattle.acpi_base.specs.declared.walk.Sizes.{Sizes}
 use Rattle.acpi_base.specs.declared.walk.Walk.{Walk}
-use Rattle.acpi_text.specs.Form.{number_at, count_of, find_choice}
+use Rattle.acpi_text.specs.Form.{number_at, count_of, size_between, find_choice}
 use Rattle.acpi_text.specs.Piece.{OfBytes, pieces_then, front_then}
 use Rattle.acpi_text.specs.Size.{front_size, start_in, inner_form, inner_size}
 use Rattle.acpi_text.specs.Structure.{all_forms, find_form, form_parts, form_inner}
@@ -24,6 +24,7 @@ use Rattle.acpi_text.specs.declared.form.InnerList.{InnerList}
 use Rattle.acpi_text.specs.declared.form.Part.{Part}
 use Rattle.acpi_text.specs.declared.form.Part.TheVariants as parts
 use Rattle.acpi_text.specs.declared.form.Part.TheVariants.{Fields, Between, Group, Entries, Numbers, Matrix, Until, Chosen}
+use Rattle.acpi_text.specs.declared.form.Part.TheVariants.{BySize}
 use Rattle.acpi_text.specs.declared.form.StructureForm.{StructureForm}
 use Rattle.acpi_text.specs.declared.form.TableForm.{TableForm}
 use Rattle.acpi_rules.specs.declared.field.Field.{Field as FieldData}
@@ -82,6 +83,10 @@ abbrev pub choice_wanted : Option Choice → List Wanted
 choice_wanted (Some choice) = rows_wanted choice.rows.now
 choice_wanted None = unnamed ∷ []
 
+abbrev pub optional_wanted : Option Choice → List Wanted
+optional_wanted (Some choice) = rows_wanted choice.rows.now
+optional_wanted None = []
+
 -- the fields of a part of a structure that begins at an offset
 abbrev pub part_wanted : ℕ → List ℕ → Part → List Wanted
 part_wanted start whole (Fields rows) = rows_wanted rows.now
@@ -95,6 +100,7 @@ part_wanted start whole (Matrix name w rows columns) =
 part_wanted start whole (parts.Bytes name count) = sized name.now looks.text 1 (number_at count whole) ∷ []
 part_wanted start whole (Until name end) = until name.now (start + number_at end whole) ∷ []
 part_wanted start whole (Chosen by choices) = choice_wanted (find_choice (number_at by whole) choices.now)
+part_wanted start whole (BySize from to choices) = optional_wanted (find_choice (size_between from to whole) choices.now)
 
 -- ---- the fields of bytes
 

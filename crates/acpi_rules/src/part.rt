@@ -4,12 +4,12 @@
 ghost use Rattle.std.specs.Prelude.{◌≡◌, ℕ, ◌+◌, ◌*◌, ◌<◌, ◌≤◌, ◌^◌, [], ◌∷◌, ◌++◌, length, drop, map, IfOk, OnOk};
 ghost use Rattle.acpi_base.specs.Look as looks;
 ghost use Rattle.acpi_rules.specs.Field.{seen, sized, until, rows_wanted, times, choice_wanted};
-ghost use Rattle.acpi_rules.specs.Field.{part_wanted, parts_fields, Reached};
+ghost use Rattle.acpi_rules.specs.Field.{optional_wanted, part_wanted, parts_fields, Reached};
 
 use crate::field::{Field, push_field, push_numbers, push_rows};
 use acpi_base::row::{Look, Row};
 use acpi_text::form::{Choice, Part};
-use acpi_text::part::{between, count_of, find_choice, number_at};
+use acpi_text::part::{between, count_of, find_choice, number_at, size_between};
 use std::alloc::AllocError;
 
 // Adds the fields of `count` entries, or of fewer if the bytes end before.
@@ -91,6 +91,23 @@ fn push_choice<'a>(
     }
 }
 
+// Adds the fields of a choice. Without a choice, it adds nothing.
+fn push_optional<'a>(
+    choice: Option<Choice>,
+    at: usize,
+    bytes: &'a [u8],
+    fields: &mut Vec<Field<'a>>,
+) -> Result<usize, AllocError>
+    requires { at + length bytes.now < 2 ^ 64 }
+    ensures { IfOk result (λ n. Reached (optional_wanted choice) at bytes.now
+        (map seen fields.old.items) (map seen fields.new.items) n) }
+{
+    match choice {
+        Some(choice) => push_rows(choice.rows, at, bytes, fields),
+        None => Ok(0),
+    }
+}
+
 // Adds a part of the structure that begins at the offset `start`, and of which `read` bytes were read.
 fn push_part<'a>(
     part: &Part,
@@ -139,6 +156,14 @@ fn push_part<'a>(
         Part::Chosen(by, choices) => {
             push_choice(
                 find_choice(number_at(by, whole), choices),
+                at,
+                bytes,
+                fields,
+            )
+        }
+        Part::BySize(from, to, choices) => {
+            push_optional(
+                find_choice(size_between(from, to, whole), choices),
                 at,
                 bytes,
                 fields,

@@ -21,12 +21,14 @@ use Rattle.acpi_base.specs.declared.row.Row.{Row}
 use Rattle.acpi_base.specs.declared.row.Row.TheVariants as rows
 use Rattle.acpi_text.specs.declared.form.Choice.{Choice}
 use Rattle.acpi_text.specs.declared.form.Part.TheVariants as parts
-use Rattle.acpi_text.specs.Form.{number_at, count_of, repeated, group_slots, find_choice, choice_slots, part_slots, parts_slots}
+use Rattle.acpi_text.specs.Form.{number_at, count_of, size_between, repeated, group_slots, find_choice, choice_slots}
+use Rattle.acpi_text.specs.Form.{optional_slots, part_slots, parts_slots}
 use Rattle.acpi_base.specs.Digit.{hex_byte}
 use Rattle.acpi_text.specs.Hex.{number_text, numbers_text}
 use Rattle.acpi_text.specs.Label.{label}
 use Rattle.acpi_text.specs.Line.{spaces, margin, padded, line, title}
-use Rattle.acpi_text.specs.Names.{OneLine, WholeLines, Named, Names, Wanted, sized, until, unnamed, row_fields, rows_fields, times, choice_fields, part_fields}
+use Rattle.acpi_text.specs.Names.{OneLine, WholeLines, Named, Names, Wanted, sized, until, unnamed, row_fields, rows_fields, times}
+use Rattle.acpi_text.specs.Names.{choice_fields, optional_fields, part_fields}
 use Rattle.acpi_text.specs.Names.{field_and, fields_of, parts_fields, no_fields, fields_by_form, inner_fields}
 use Rattle.acpi_text.specs.Names.{lists_fields, content_fields, structure_fields, table_fields, LinesHaveNames, TextsHaveNames}
 use Rattle.acpi_base.specs.Look.{Look}
@@ -276,6 +278,10 @@ choice_wanted : (depth : ℕ) (choice : Option Choice) → want (choice_slots de
 choice_wanted depth (Some choice) = rows_wanted (depth + 1) choice.rows.now
 choice_wanted depth None = refl
 
+optional_wanted : (depth : ℕ) (choice : Option Choice) → want (optional_slots depth choice) ≡ optional_fields choice
+optional_wanted depth (Some choice) = rows_wanted (depth + 1) choice.rows.now
+optional_wanted depth None = refl
+
 matrix_wanted : (none : Bool) (n : ℕ) (slots : List Slot) (fields : List Wanted) → want slots ≡ fields
     → want (cond none [] (repeated n slots)) ≡ cond none [] (times n fields)
 matrix_wanted true n slots fields same = refl
@@ -295,6 +301,8 @@ part_wanted depth start whole (parts.Matrix name w list columns) =
 part_wanted depth start whole (parts.Bytes name count) = some_bytes_of name.now (number_at count whole)
 part_wanted depth start whole (parts.Until name end) = refl
 part_wanted depth start whole (parts.Chosen by choices) = choice_wanted depth (find_choice (number_at by whole) choices.now)
+part_wanted depth start whole (parts.BySize from to choices) =
+    optional_wanted depth (find_choice (size_between from to whole) choices.now)
 
 parts_named : (depth at : ℕ) (list : List Part) (piece : List ℕ) → AreBytes piece
     → Names (parts_fields list at piece) (slots_text at (parts_slots depth at piece list) piece)

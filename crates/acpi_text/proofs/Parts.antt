@@ -1,17 +1,23 @@
 -- What the parts of a structure show.
-use Rattle.std.proofs.Common.{◌≡◌, ℕ, ◌+◌, ◌≤◌, List, [], ◌++◌, length, take, drop, sym, ap, subst, ◌∙◌}
+use Rattle.std.proofs.Common.{◌≡◌, ℕ, ◌+◌, ◌≤◌, List, [], ◌∷◌, ◌++◌, length, take, drop, sym, ap, subst, ◌∙◌}
 use Rattle.std.proofs.Common.{Option, None}
 use Rattle.std.proofs.lemmas.List.{append-nil}
 use Rattle.acpi_text.specs.declared.form.Choice.{Choice}
 use Rattle.acpi_text.specs.declared.form.Part.{Part}
-use Rattle.acpi_text.specs.Form.{choice_slots, part_slots, parts_slots}
-use Rattle.acpi_text.specs.Slot.{nameless, slots_text, Showed}
-use Rattle.acpi_text.proofs.Shown.{showed_unknown, each_done}
+use Rattle.acpi_text.specs.Form.{choice_slots, optional_slots, part_slots, parts_slots}
+use Rattle.acpi_text.specs.Slot.{Slot, nameless, slots_text, Showed}
+use Rattle.acpi_text.proofs.Shown.{showed_unknown, each_start, each_done}
 
 pub showed_no_choice : (depth : ℕ) (choice : Option Choice) (at : ℕ) (bytes old new : List ℕ) → choice ≡ None → new ≡ old ++ nameless at bytes
     → Showed (choice_slots depth choice) at bytes old new (length bytes)
 showed_no_choice depth choice at bytes old new none added =
     subst (λ slots. Showed slots at bytes old new (length bytes)) (sym (ap (choice_slots depth) none)) (showed_unknown at bytes old new added)
+
+pub showed_without : (depth : ℕ) (choice : Option Choice) (at : ℕ) (bytes text : List ℕ) → choice ≡ None
+    → Showed (optional_slots depth choice) at bytes text text 0
+showed_without depth choice at bytes text none =
+    subst (λ slots. Showed slots at bytes text text 0) (sym (ap (optional_slots depth) none))
+    (each_start (λ (slot : Slot). slot ∷ []) [] at bytes text)
 
 -- ---- all parts
 

@@ -9,7 +9,7 @@ use Rattle.acpi_base.specs.declared.row.Row.{Row}
 use Rattle.acpi_base.specs.declared.row.Row.TheVariants as rows
 use Rattle.acpi_base.specs.declared.walk.Place.{Place}
 use Rattle.acpi_base.specs.declared.walk.Walk.{Walk}
-use Rattle.acpi_text.specs.Form.{number_at, count_of, find_choice}
+use Rattle.acpi_text.specs.Form.{number_at, count_of, size_between, find_choice}
 use Rattle.acpi_text.specs.Label.{label}
 use Rattle.acpi_text.specs.Line.{line}
 use Rattle.acpi_base.specs.Look.{Look}
@@ -26,6 +26,7 @@ use Rattle.acpi_text.specs.declared.form.InnerForm.{InnerForm}
 use Rattle.acpi_text.specs.declared.form.Part.{Part}
 use Rattle.acpi_text.specs.declared.form.Part.TheVariants as parts
 use Rattle.acpi_text.specs.declared.form.Part.TheVariants.{Fields, Between, Group, Entries, Numbers, Matrix, Until, Chosen}
+use Rattle.acpi_text.specs.declared.form.Part.TheVariants.{BySize}
 use Rattle.acpi_text.specs.declared.form.StructureForm.{StructureForm}
 use Rattle.acpi_text.specs.declared.form.TableForm.{TableForm}
 
@@ -97,6 +98,10 @@ abbrev pub choice_fields : Option Choice → List Wanted
 choice_fields (Some choice) = rows_fields choice.rows.now
 choice_fields None = unnamed ∷ []
 
+abbrev pub optional_fields : Option Choice → List Wanted
+optional_fields (Some choice) = rows_fields choice.rows.now
+optional_fields None = []
+
 -- the fields of a part of a structure that begins at an offset
 abbrev pub part_fields : ℕ → List ℕ → Part → List Wanted
 part_fields start whole (Fields rows) = rows_fields rows.now
@@ -110,6 +115,7 @@ part_fields start whole (Matrix name w rows columns) =
 part_fields start whole (parts.Bytes name count) = sized name.now (number_at count whole) ∷ []
 part_fields start whole (Until name end) = until name.now (start + number_at end whole) ∷ []
 part_fields start whole (Chosen by choices) = choice_fields (find_choice (number_at by whole) choices.now)
+part_fields start whole (BySize from to choices) = optional_fields (find_choice (size_between from to whole) choices.now)
 
 -- ---- the fields of a table
 

@@ -14,7 +14,7 @@ pub enum Count {
     Once,
 }
 
-/// Fields that a structure has if another field has this number, and a name over them.
+/// Fields that a structure has if another field, or the size of a part of it, has this number, and a name over them.
 #[derive(Clone, Copy, Debug)]
 pub struct Choice {
     pub number: usize,
@@ -44,6 +44,9 @@ pub enum Part {
     Until(&'static str, Place),
     /// The choice whose number a field has. Where there is none, the rest of the structure has no names.
     Chosen(Place, &'static [Choice]),
+    /// The choice whose number is how many bytes there are from the offset in the first field up to the offset in the second, or
+    /// up to the end of the structure if the second isn't past the first. Where there is none, this part has no fields.
+    BySize(Place, Place, &'static [Choice]),
 }
 
 /// Where the structures within another begin, counted from its beginning.

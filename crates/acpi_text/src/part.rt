@@ -4,8 +4,8 @@
 ghost use Rattle.std.specs.Prelude.{◌≡◌, ℕ, ◌+◌, ◌<◌, ◌≤◌, ◌^◌, [], ◌∷◌, ◌++◌, length, drop, OnOk, IfOk, string_bytes};
 ghost use Rattle.std.specs.List.{slice_range};
 ghost use Rattle.acpi_base.specs.Look as looks;
-ghost use Rattle.acpi_text.specs.Form.{number_at, count_of, repeated, group_slots, find_choice, choice_slots};
-ghost use Rattle.acpi_text.specs.Form.{part_slots, parts_slots};
+ghost use Rattle.acpi_text.specs.Form.{number_at, count_of, size_between, repeated, group_slots, find_choice, choice_slots};
+ghost use Rattle.acpi_text.specs.Form.{optional_slots, part_slots, parts_slots};
 ghost use Rattle.acpi_text.specs.Slot.{field, field_of, upto, slots_text, Showed};
 
 use crate::form::{Choice, Count, Part};
@@ -35,6 +35,17 @@ pub fn count_of(count: Count, whole: &[u8]) -> usize
         Count::Rest => whole.len(),
         Count::Once => 1,
     }
+}
+
+/// Returns how many bytes there are from the offset in one field up to that in another, or up to the end of the structure if the
+/// other isn't past the first.
+pub fn size_between(from: Place, to: Place, whole: &[u8]) -> usize
+    ensures { result ≡ size_between from to whole.now }
+{
+    let begin = number_at(from, whole);
+    let next = number_at(to, whole);
+    let end = if begin < next { next } else { whole.len() };
+    end.saturating_sub(begin)
 }
 
 /// Returns the rows from one index on and before another, as far as there are rows.
@@ -190,6 +201,25 @@ fn push_choice(
     }
 }
 
+// Adds the fields of a choice. Without a choice, it adds nothing.
+fn push_optional(
+    depth: u8,
+    choice: Option<Choice>,
+    offset: usize,
+    bytes: &[u8],
+    text: &mut String,
+) -> Result<usize, AllocError>
+    requires level { depth < 254 }
+    requires fits { offset + length bytes.now < 2 ^ 64 }
+    ensures { IfOk result
+        (λ n. Showed (optional_slots depth choice) offset bytes.now (string_bytes text.old) (string_bytes text.new) n) }
+{
+    match choice {
+        Some(choice) => push_group(depth, choice.name, choice.rows, offset, bytes, text),
+        None => Ok(0),
+    }
+}
+
 // Adds a part of the structure that begins at the offset `start`, and of which `at` bytes were shown.
 fn push_part(
     depth: u8,
@@ -256,6 +286,15 @@ fn push_part(
             push_choice(
                 depth,
                 find_choice(number_at(by, whole), choices),
+                offset,
+                bytes,
+                text,
+            )
+        }
+        Part::BySize(from, to, choices) => {
+            push_optional(
+                depth,
+                find_choice(size_between(from, to, whole), choices),
                 offset,
                 bytes,
                 text,

@@ -6,7 +6,8 @@ use Rattle.acpi_base.specs.FurtherWalk.{table_walk_of}
 use Rattle.acpi_base.specs.declared.walk.Walk.{Walk}
 use Rattle.acpi_forms.specs.Kind.{kind_of, title_of}
 use Rattle.acpi_forms.specs.FurtherNames.{cdat_names, s3pt_names}
-use Rattle.acpi_forms.specs.Named.{Named, IsNamed, names_of, rsdp_names, facs_names}
+use Rattle.acpi_forms.specs.Layout.{names_in}
+use Rattle.acpi_forms.specs.Named.{Named, IsNamed, rsdp_names, facs_names}
 use Rattle.acpi_forms.specs.Walks.{cdat_walk, s3pt_walk}
 use Rattle.acpi_make.specs.declared.file_kind.FileKind.{FileKind}
 use Rattle.acpi_make.specs.declared.file_kind.FileKind.TheVariants.{Rsdp, Facs, Cdat, S3pt, Table}
@@ -31,7 +32,7 @@ AreBy Facs bytes findings = AreByForm facs_names None bytes findings
 AreBy Cdat bytes findings = AreByForm cdat_names (Some cdat_walk) bytes findings
 AreBy S3pt bytes findings = AreByForm s3pt_names (Some s3pt_walk) bytes findings
 AreBy Table bytes findings =
-    AreByForm (names_of (field_at 0 4 bytes)) (table_walk_of (field_at 0 4 bytes)) bytes findings
+    AreByForm (names_in (field_at 0 4 bytes) bytes) (table_walk_of (field_at 0 4 bytes)) bytes findings
 
 -- bytes are what their signature says, and these are the rules that they break
 pub record AreFindings (bytes : List ℕ) (findings : List Finding) : Type 0 where

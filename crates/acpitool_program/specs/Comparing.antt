@@ -6,7 +6,8 @@ use Rattle.acpi_base.specs.FurtherWalk.{table_walk_of}
 use Rattle.acpi_base.specs.declared.walk.Walk.{Walk}
 use Rattle.acpi_forms.specs.Kind.{kind_of, title_of}
 use Rattle.acpi_forms.specs.FurtherNames.{cdat_names, s3pt_names}
-use Rattle.acpi_forms.specs.Named.{Named, IsNamed, names_of, rsdp_names, facs_names}
+use Rattle.acpi_forms.specs.Layout.{names_in}
+use Rattle.acpi_forms.specs.Named.{Named, IsNamed, rsdp_names, facs_names}
 use Rattle.acpi_forms.specs.Walks.{cdat_walk, s3pt_walk}
 use Rattle.acpi_make.specs.declared.file_kind.FileKind.{FileKind}
 use Rattle.acpi_make.specs.declared.file_kind.FileKind.TheVariants.{Rsdp, Facs, Cdat, S3pt, Table}
@@ -33,7 +34,7 @@ AreFieldsBy Rsdp bytes fields = AreByForm rsdp_names None bytes fields
 AreFieldsBy Facs bytes fields = AreByForm facs_names None bytes fields
 AreFieldsBy Cdat bytes fields = AreByForm cdat_names (Some cdat_walk) bytes fields
 AreFieldsBy S3pt bytes fields = AreByForm s3pt_names (Some s3pt_walk) bytes fields
-AreFieldsBy Table bytes fields = AreByForm (names_of (field_at 0 4 bytes)) (table_walk_of (field_at 0 4 bytes)) bytes fields
+AreFieldsBy Table bytes fields = AreByForm (names_in (field_at 0 4 bytes) bytes) (table_walk_of (field_at 0 4 bytes)) bytes fields
 
 abbrev pub AreFields : List ℕ → List Field → Type 0
 AreFields bytes fields = AreFieldsBy (kind_of bytes) bytes fields

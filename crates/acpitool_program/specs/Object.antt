@@ -5,7 +5,8 @@ use Rattle.acpi_base.specs.FurtherWalk.{table_walk_of}
 use Rattle.acpi_base.specs.declared.walk.Walk.{Walk}
 use Rattle.acpi_forms.specs.Kind.{kind_of}
 use Rattle.acpi_forms.specs.FurtherNames.{cdat_names, s3pt_names}
-use Rattle.acpi_forms.specs.Named.{Named, IsNamed, names_of, rsdp_names, facs_names}
+use Rattle.acpi_forms.specs.Layout.{names_in}
+use Rattle.acpi_forms.specs.Named.{Named, IsNamed, rsdp_names, facs_names}
 use Rattle.acpi_forms.specs.Walks.{cdat_walk, s3pt_walk}
 use Rattle.acpi_json.specs.Table.{table}
 use Rattle.acpi_make.specs.declared.file_kind.FileKind.{FileKind}
@@ -25,7 +26,8 @@ IsObjectBy Rsdp name bytes text = IsByForm rsdp_names None name bytes text
 IsObjectBy Facs name bytes text = IsByForm facs_names None name bytes text
 IsObjectBy Cdat name bytes text = IsByForm cdat_names (Some cdat_walk) name bytes text
 IsObjectBy S3pt name bytes text = IsByForm s3pt_names (Some s3pt_walk) name bytes text
-IsObjectBy Table name bytes text = IsByForm (names_of (field_at 0 4 bytes)) (table_walk_of (field_at 0 4 bytes)) name bytes text
+IsObjectBy Table name bytes text =
+    IsByForm (names_in (field_at 0 4 bytes) bytes) (table_walk_of (field_at 0 4 bytes)) name bytes text
 
 -- bytes are what their signature says, and this is their object
 pub record IsObject (name bytes text : List ℕ) : Type 0 where

@@ -4,7 +4,8 @@ ghost use Rattle.std.specs.Prelude.{◌≡◌, ◌++◌, map, Some, None, Ok, If
 ghost use Rattle.acpi_base.specs.Bytes.{field_at};
 ghost use Rattle.acpi_base.specs.FurtherWalk.{table_walk_of};
 ghost use Rattle.acpi_forms.specs.FurtherNames.{cdat_names, s3pt_names};
-ghost use Rattle.acpi_forms.specs.Named.{Named, IsNamed, names_of, rsdp_names, facs_names};
+ghost use Rattle.acpi_forms.specs.Layout.{names_in};
+ghost use Rattle.acpi_forms.specs.Named.{Named, IsNamed, rsdp_names, facs_names};
 ghost use Rattle.acpi_forms.specs.Walks.{cdat_walk, s3pt_walk};
 ghost use Rattle.acpi_rules.specs.Finding.{noted};
 ghost use Rattle.acpitool_program.specs.Checked.{AreByForm, AreFindings, finding_line, finding_lines, finding_status};
@@ -18,10 +19,11 @@ use crate::check::{check_coherent, check_control, check_performance, check_point
 use crate::fault::Fault;
 use acpi_base::further_walk::table_walk_of;
 use acpi_base::walk::Walk;
-use acpi_forms::form::{facs_form, form_of, rsdp_form};
+use acpi_forms::form::{facs_form, rsdp_form};
 use acpi_forms::further::cdat::{cdat_form, cdat_walk};
 use acpi_forms::further::s3pt::{s3pt_form, s3pt_walk};
 use acpi_forms::kind::{kind_of, title_of};
+use acpi_forms::layout::form_in;
 use acpi_json::finding::push_finding as push_finding_object;
 use acpi_make::file_kind::FileKind;
 use acpi_read::pieces::signature_number;
@@ -82,15 +84,21 @@ fn signature_findings<'a>(
     signature: u32,
     bytes: &'a [u8],
 ) -> Result<Vec<Finding<'a>>, AllocError>
-    ensures { IfOk result (λ found. AreByForm (names_of signature) (table_walk_of signature) bytes.now (map noted found.items)) }
+    ensures { IfOk result (λ found. AreByForm (names_in signature bytes.now) (table_walk_of signature)
+        bytes.now (map noted found.items)) }
 {
-    by_form(alloc, &form_of(signature), table_walk_of(signature), bytes)
+    by_form(
+        alloc,
+        &form_in(signature, bytes),
+        table_walk_of(signature),
+        bytes,
+    )
 }
 
 // Returns the rules that a table breaks.
 fn findings_of_table<'a>(alloc: Global, table: &Table<'a>) -> Result<Vec<Finding<'a>>, AllocError>
-    ensures { IfOk result (λ found. AreByForm (names_of (field_at 0 4 table.now)) (table_walk_of (field_at 0 4 table.now))
-        table.now (map noted found.items)) }
+    ensures { IfOk result (λ found. AreByForm (names_in (field_at 0 4 table.now) table.now)
+        (table_walk_of (field_at 0 4 table.now)) table.now (map noted found.items)) }
 {
     signature_findings(alloc, signature_number(table), table.bytes())
 }

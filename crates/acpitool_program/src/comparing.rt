@@ -6,7 +6,8 @@ ghost use Rattle.acpi_base.specs.Bytes.{field_at};
 ghost use Rattle.acpi_base.specs.FurtherWalk.{table_walk_of};
 ghost use Rattle.acpi_forms.specs.Kind.{kind_of};
 ghost use Rattle.acpi_forms.specs.FurtherNames.{cdat_names, s3pt_names};
-ghost use Rattle.acpi_forms.specs.Named.{Named, IsNamed, names_of, rsdp_names, facs_names};
+ghost use Rattle.acpi_forms.specs.Layout.{names_in};
+ghost use Rattle.acpi_forms.specs.Named.{Named, IsNamed, rsdp_names, facs_names};
 ghost use Rattle.acpi_forms.specs.Walks.{cdat_walk, s3pt_walk};
 ghost use Rattle.acpi_rules.specs.Field.{seen};
 ghost use Rattle.acpitool_program.specs.Comparing.{AreByForm, AreFields, signatures_line, or_nameless, AreDifferences};
@@ -22,10 +23,11 @@ use crate::outcome::tell_unread;
 use crate::text::check_kind;
 use acpi_base::further_walk::table_walk_of;
 use acpi_base::walk::Walk;
-use acpi_forms::form::{facs_form, form_of, rsdp_form};
+use acpi_forms::form::{facs_form, rsdp_form};
 use acpi_forms::further::cdat::{cdat_form, cdat_walk};
 use acpi_forms::further::s3pt::{s3pt_form, s3pt_walk};
 use acpi_forms::kind::{kind_of, title_of};
+use acpi_forms::layout::form_in;
 use acpi_make::file_kind::FileKind;
 use acpi_read::bytes::dword_at;
 use acpi_read::report::push_shown;
@@ -86,16 +88,22 @@ fn signature_fields<'a>(
     signature: u32,
     bytes: &'a [u8],
 ) -> Result<Vec<Field<'a>>, AllocError>
-    ensures { IfOk result (λ fields. AreByForm (names_of signature) (table_walk_of signature) bytes.now (map seen fields.items)) }
+    ensures { IfOk result (λ fields. AreByForm (names_in signature bytes.now) (table_walk_of signature)
+        bytes.now (map seen fields.items)) }
 {
-    by_form(alloc, &form_of(signature), table_walk_of(signature), bytes)
+    by_form(
+        alloc,
+        &form_in(signature, bytes),
+        table_walk_of(signature),
+        bytes,
+    )
 }
 
 // Returns the fields of a table.
 fn table_fields<'a>(alloc: Global, bytes: &'a [u8]) -> Result<Vec<Field<'a>>, AllocError>
     requires { 4 ≤ length bytes.now }
-    ensures { IfOk result (λ fields. AreByForm (names_of (field_at 0 4 bytes.now)) (table_walk_of (field_at 0 4 bytes.now))
-        bytes.now (map seen fields.items)) }
+    ensures { IfOk result (λ fields. AreByForm (names_in (field_at 0 4 bytes.now) bytes.now)
+        (table_walk_of (field_at 0 4 bytes.now)) bytes.now (map seen fields.items)) }
 {
     signature_fields(alloc, dword_at(bytes, 0), bytes)
 }

@@ -4,7 +4,8 @@ ghost use Rattle.std.specs.Prelude.{◌≡◌, Some, None, Ok, IfOk, IfErr};
 ghost use Rattle.acpi_base.specs.Bytes.{field_at};
 ghost use Rattle.acpi_base.specs.FurtherWalk.{table_walk_of};
 ghost use Rattle.acpi_forms.specs.FurtherNames.{cdat_names, s3pt_names};
-ghost use Rattle.acpi_forms.specs.Named.{Named, IsNamed, names_of, rsdp_names, facs_names};
+ghost use Rattle.acpi_forms.specs.Layout.{names_in};
+ghost use Rattle.acpi_forms.specs.Named.{Named, IsNamed, rsdp_names, facs_names};
 ghost use Rattle.acpi_forms.specs.Walks.{cdat_walk, s3pt_walk};
 ghost use Rattle.acpi_make.specs.declared.file_kind.FileKind.TheVariants as kinds;
 ghost use Rattle.acpi_term.specs.declared.read_error.ReadError.TheVariants.{Memory};
@@ -16,10 +17,11 @@ use crate::check::{check_coherent, check_control, check_performance, check_point
 use crate::fault::Fault;
 use acpi_base::further_walk::table_walk_of;
 use acpi_base::walk::Walk;
-use acpi_forms::form::{facs_form, form_of, rsdp_form};
+use acpi_forms::form::{facs_form, rsdp_form};
 use acpi_forms::further::cdat::{cdat_form, cdat_walk};
 use acpi_forms::further::s3pt::{s3pt_form, s3pt_walk};
 use acpi_forms::kind::kind_of;
+use acpi_forms::layout::form_in;
 use acpi_json::table::table_object;
 use acpi_make::file_kind::FileKind;
 use acpi_read::pieces::signature_number;
@@ -78,12 +80,13 @@ fn signature_object(
     signature: u32,
     bytes: &[u8],
 ) -> Result<Vec<u8>, AllocError>
-    ensures { IfOk result (λ object. IsByForm (names_of signature) (table_walk_of signature) name.now bytes.now object.items) }
+    ensures { IfOk result (λ object. IsByForm (names_in signature bytes.now) (table_walk_of signature)
+        name.now bytes.now object.items) }
 {
     by_form(
         alloc,
         name,
-        &form_of(signature),
+        &form_in(signature, bytes),
         table_walk_of(signature),
         bytes,
     )
@@ -91,8 +94,8 @@ fn signature_object(
 
 // Returns the object of a table.
 fn object_of_table(alloc: Global, name: &str, table: &Table<'_>) -> Result<Vec<u8>, AllocError>
-    ensures { IfOk result (λ object. IsByForm (names_of (field_at 0 4 table.now)) (table_walk_of (field_at 0 4 table.now))
-        name.now table.now object.items) }
+    ensures { IfOk result (λ object. IsByForm (names_in (field_at 0 4 table.now) table.now)
+        (table_walk_of (field_at 0 4 table.now)) name.now table.now object.items) }
 {
     signature_object(alloc, name, signature_number(table), table.bytes())
 }

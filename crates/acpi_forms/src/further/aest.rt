@@ -1,7 +1,8 @@
 //! The Arm Error Source Table.
 
-ghost use Rattle.acpi_forms.specs.FurtherNames.{aest_names};
-ghost use Rattle.acpi_forms.specs.Name.{IsNamed};
+ghost use Rattle.std.specs.Prelude.{◌≡◌, take, drop};
+ghost use Rattle.acpi_forms.specs.FurtherNames.{aest_kinds, aest_names};
+ghost use Rattle.acpi_forms.specs.Name.{IsNamed, kinds};
 
 use acpi_base::header::HEADER;
 use acpi_base::row::{Bits, Row, Word};
@@ -135,6 +136,53 @@ const INTERFACE: [Row; 7] = [
     Row::Number("Number of Error Records", 4),
 ];
 
+// ---- the records of a node
+
+// The fields of an interface after those, in version 2 of the standard: three bitmaps, in rows of this kind and width, and what
+// the flags say is valid.
+macro_rules! records {
+    ($bitmap:ident, $width:literal) => {
+        &[
+            Row::$bitmap("Error Records Implemented", $width),
+            Row::$bitmap("Error Status Reporting Supported", $width),
+            Row::$bitmap("Addressing Mode", $width),
+            Row::Hex("Error Node Device", 4),
+            Row::Hex("Processor Affinity", 4),
+            Row::Hex("Error Group Register Base", 8),
+            Row::Hex("Fault Injection Register Base", 8),
+            Row::Hex("Interrupt Config Register Base", 8),
+        ]
+    };
+}
+
+// By the size of the interface in bytes. A group has 64 records in 4K, 256 in 16K and 896 in 64K, and a bitmap has a bit for each.
+const RECORDS: [Choice; 4] = [
+    Choice {
+        number: 80,
+        name: "Error Records of 4K",
+        rows: records!(Hex, 8),
+    },
+    Choice {
+        number: 152,
+        name: "Error Records of 16K",
+        rows: records!(Bytes, 32),
+    },
+    Choice {
+        number: 392,
+        name: "Error Records of 64K",
+        rows: records!(Bytes, 112),
+    },
+    Choice {
+        number: 48,
+        name: "Error Records of Version 1",
+        rows: &[
+            Row::Hex("Error Records Implemented", 8),
+            Row::Hex("Error Status Reporting Supported", 8),
+            Row::Hex("Addressing Mode", 8),
+        ],
+    },
+];
+
 // ---- interrupts
 
 const INTERRUPT_TYPES: [Word; 2] = [Word(0, "Fault Handling"), Word(1, "Error Recovery")];
@@ -154,8 +202,10 @@ const INTERRUPT: [Row; 6] = [
 
 // ---- nodes
 
-// A node of a type, by its name and the rows of its data. A node without interrupts has 0 as their offset, and its records end
-// with it.
+// A node of a type, by its name and the rows of its data. The interface reaches from its offset up to that of the interrupts. A
+// node without interrupts has 0 as their offset, and its interface ends with it. The records of an interface of another size are a
+// line of bytes. In a text that is made into a table, the interrupts begin where this line ends; it is empty after records with
+// names.
 macro_rules! node {
     ($number:literal, $name:literal, $data:ident) => {
         StructureForm {
@@ -168,6 +218,7 @@ macro_rules! node {
                 Part::Group(DATA, &$data),
                 Part::Until("Bytes", Place::DWord(8)),
                 Part::Group("Node Interface", &INTERFACE),
+                Part::BySize(Place::DWord(8), Place::DWord(12), &RECORDS),
                 Part::Until("Error Records", Place::DWord(12)),
                 Part::Entries("Node Interrupt", Count::Field(Place::DWord(16)), &INTERRUPT),
                 Part::Until("Error Records without Interrupts", Place::Word(1)),
@@ -177,7 +228,7 @@ macro_rules! node {
     };
 }
 
-const NODES: [StructureForm; 7] = [
+const NODES: [StructureForm; 4] = [
     StructureForm {
         number: 0,
         name: "Processor Error Node",
@@ -189,6 +240,7 @@ const NODES: [StructureForm; 7] = [
             Part::Chosen(Place::Byte(48), &PROCESSOR_RESOURCES),
             Part::Until("Bytes", Place::DWord(8)),
             Part::Group("Node Interface", &INTERFACE),
+            Part::BySize(Place::DWord(8), Place::DWord(12), &RECORDS),
             Part::Until("Error Records", Place::DWord(12)),
             Part::Entries("Node Interrupt", Count::Field(Place::DWord(16)), &INTERRUPT),
             Part::Until("Error Records without Interrupts", Place::Word(1)),
@@ -206,29 +258,46 @@ const NODES: [StructureForm; 7] = [
             Part::Chosen(Place::DWord(8), &VENDORS),
             Part::Until("Bytes", Place::DWord(8)),
             Part::Group("Node Interface", &INTERFACE),
+            Part::BySize(Place::DWord(8), Place::DWord(12), &RECORDS),
             Part::Until("Error Records", Place::DWord(12)),
             Part::Entries("Node Interrupt", Count::Field(Place::DWord(16)), &INTERRUPT),
             Part::Until("Error Records without Interrupts", Place::Word(1)),
         ],
         inner: &Inner::Nothing,
     },
+];
+
+// Those that come after these. Each list has a function, since all nodes are too much for one proof.
+const FURTHER_NODES: [StructureForm; 3] = [
     node!(4, "GIC Error Node", GIC),
     node!(5, "PCIe Error Node", PCIE),
     node!(6, "Proxy Error Node", PROXY),
 ];
 
-const AEST: TableForm = TableForm {
-    name: "Arm Error Source Table (AEST)",
-    parts: &[Part::Fields(&HEADER)],
-    structures: &NODES,
-    further: &[],
-    inner: &Inner::Nothing,
-};
+fn nodes() -> &'static [StructureForm]
+    ensures { kinds result.now ≡ take 4 aest_kinds }
+{
+    &NODES
+}
 
-/// Returns the form of the Arm Error Source Table (Arm DEN0085, versions 1 and 2). The records of an interface are one line of
-/// bytes, since they differ between the versions and the formats of a group.
+fn further_nodes() -> &'static [StructureForm]
+    ensures { kinds result.now ≡ drop 4 aest_kinds }
+{
+    &FURTHER_NODES
+}
+
+/// Returns the form of the Arm Error Source Table (Arm DEN0085, versions 1 and 2). The records of an interface differ between the
+/// versions and the formats of a group, so they are named by the size of the interface: 48 bytes in version 1, and 80, 152 or 392
+/// bytes in version 2 where a group has 4K, 16K or 64K. Those of another size are one line of bytes. The names are from memory, and
+/// so are the layouts of 16K and 64K.
 pub fn aest_form() -> TableForm
     ensures { IsNamed result aest_names }
 {
-    AEST
+    TableForm {
+        name: "Arm Error Source Table (AEST)",
+        parts: &[Part::Fields(&HEADER)],
+        structures: nodes(),
+        further: further_nodes(),
+        inner: &Inner::Nothing,
+    }
 }

@@ -1,9 +1,14 @@
 //! The Platform Memory Topology Table.
 
+ghost use Rattle.acpi_forms.specs.FurtherNames.{earlier_pmtt_names};
+ghost use Rattle.acpi_forms.specs.Name.{IsNamed};
+
 use acpi_base::header::HEADER;
 use acpi_base::row::{Bits, Row, Word};
-use acpi_base::walk::Place;
-use acpi_text::form::{Choice, Inner, Part, StructureForm, TableForm};
+use acpi_base::walk::{Place, Sizes};
+use acpi_text::form::{
+    Count, Inner, InnerForm, InnerList, InnerSize, Part, Start, StructureForm, TableForm,
+};
 
 const PMTT_FIXED: [Row; 1] = [Row::Number("Number of Memory Devices", 4)];
 
@@ -19,88 +24,36 @@ const DEVICE_FLAGS: [Bits; 3] = [
     Bits::OneOf(0xc, &MEMORIES),
 ];
 
-const DEVICE_SOCKET: [Row; 3] = [
-    Row::Number("Number of Memory Devices", 4),
-    Row::Number("Socket Identifier", 2),
-    Row::Reserved(2),
-];
-
-const DEVICE_CONTROLLER: [Row; 3] = [
-    Row::Number("Number of Memory Devices", 4),
-    Row::Number("Memory Controller Identifier", 2),
-    Row::Reserved(2),
-];
-
-const DEVICE_DIMM: [Row; 2] = [
-    Row::Number("Number of Memory Devices", 4),
-    Row::Hex("SMBIOS Handle", 4),
-];
-
-// In revision 1 of the table a socket contains the devices below it, and this one has none.
-const EARLIER_SOCKET: [Row; 2] = [Row::Number("Socket Identifier", 2), Row::Reserved(2)];
-
-const EARLIER_DIMM: [Row; 4] = [
-    Row::Number("Physical Component Identifier", 2),
-    Row::Reserved(2),
-    Row::Number("Size of DIMM", 4),
-    Row::Hex("SMBIOS Handle", 4),
-];
-
-// What a device has after its flags, by its length: that of revision 2 of the table has 16 bytes.
-const SOCKET_FIELDS: [Choice; 2] = [
-    Choice {
-        number: 16,
-        name: "Socket Fields",
-        rows: &DEVICE_SOCKET,
-    },
-    Choice {
-        number: 12,
-        name: "Socket Fields of Revision 1",
-        rows: &EARLIER_SOCKET,
-    },
-];
-
-const CONTROLLER_FIELDS: [Choice; 1] = [Choice {
-    number: 16,
-    name: "Memory Controller Fields",
-    rows: &DEVICE_CONTROLLER,
-}];
-
-const DIMM_FIELDS: [Choice; 2] = [
-    Choice {
-        number: 16,
-        name: "DIMM Fields",
-        rows: &DEVICE_DIMM,
-    },
-    Choice {
-        number: 20,
-        name: "DIMM Fields of Revision 1",
-        rows: &EARLIER_DIMM,
-    },
-];
-
-const SOCKET: [Row; 5] = [
+const SOCKET: [Row; 8] = [
     Row::Preset("Type", 1, 0),
     Row::Reserved(1),
     Row::Number("Length", 2),
     Row::Flags("Flags", 2, &DEVICE_FLAGS),
     Row::Reserved(2),
+    Row::Number("Number of Memory Devices", 4),
+    Row::Number("Socket Identifier", 2),
+    Row::Reserved(2),
 ];
 
-const CONTROLLER: [Row; 5] = [
+const CONTROLLER: [Row; 8] = [
     Row::Preset("Type", 1, 1),
     Row::Reserved(1),
     Row::Number("Length", 2),
     Row::Flags("Flags", 2, &DEVICE_FLAGS),
     Row::Reserved(2),
+    Row::Number("Number of Memory Devices", 4),
+    Row::Number("Memory Controller Identifier", 2),
+    Row::Reserved(2),
 ];
 
-const DIMM: [Row; 5] = [
+const DIMM: [Row; 7] = [
     Row::Preset("Type", 1, 2),
     Row::Reserved(1),
     Row::Number("Length", 2),
     Row::Flags("Flags", 2, &DEVICE_FLAGS),
     Row::Reserved(2),
+    Row::Number("Number of Memory Devices", 4),
+    Row::Hex("SMBIOS Handle", 4),
 ];
 
 const VENDOR: [Row; 7] = [
@@ -117,28 +70,19 @@ const DEVICES: [StructureForm; 4] = [
     StructureForm {
         number: 0,
         name: "Socket",
-        parts: &[
-            Part::Fields(&SOCKET),
-            Part::Chosen(Place::Word(2), &SOCKET_FIELDS),
-        ],
+        parts: &[Part::Fields(&SOCKET)],
         inner: &Inner::Nothing,
     },
     StructureForm {
         number: 1,
         name: "Memory Controller",
-        parts: &[
-            Part::Fields(&CONTROLLER),
-            Part::Chosen(Place::Word(2), &CONTROLLER_FIELDS),
-        ],
+        parts: &[Part::Fields(&CONTROLLER)],
         inner: &Inner::Nothing,
     },
     StructureForm {
         number: 2,
         name: "DIMM",
-        parts: &[
-            Part::Fields(&DIMM),
-            Part::Chosen(Place::Word(2), &DIMM_FIELDS),
-        ],
+        parts: &[Part::Fields(&DIMM)],
         inner: &Inner::Nothing,
     },
     StructureForm {
@@ -152,10 +96,8 @@ const DEVICES: [StructureForm; 4] = [
     },
 ];
 
-/// The Platform Memory Topology Table (ACPI 6.5, 5.2.22). A device of revision 1 of the table (ACPI 6.3, 5.2.21) has other fields
-/// after the flags. Those of a DIMM and of a socket without devices have names. In that revision a memory controller contains its
-/// proximity domains and the DIMMs below it, and a socket its controllers. What these contain, and the fields before it, have no
-/// names here. The names of revision 1 are written from memory.
+/// The Platform Memory Topology Table (ACPI 6.5, 5.2.22): its devices stand one after another, and each says how many of the
+/// next ones are below it.
 pub const PMTT: TableForm = TableForm {
     name: "Platform Memory Topology Table (PMTT)",
     parts: &[Part::Fields(&HEADER), Part::Fields(&PMTT_FIXED)],
@@ -163,3 +105,107 @@ pub const PMTT: TableForm = TableForm {
     further: &[],
     inner: &Inner::Nothing,
 };
+
+const EARLIER_SOCKET: [Row; 7] = [
+    Row::Preset("Type", 1, 0),
+    Row::Reserved(1),
+    Row::Number("Length", 2),
+    Row::Flags("Flags", 2, &DEVICE_FLAGS),
+    Row::Reserved(2),
+    Row::Number("Socket Identifier", 2),
+    Row::Reserved(2),
+];
+
+const EARLIER_CONTROLLER: [Row; 13] = [
+    Row::Preset("Type", 1, 1),
+    Row::Reserved(1),
+    Row::Number("Length", 2),
+    Row::Flags("Flags", 2, &DEVICE_FLAGS),
+    Row::Reserved(2),
+    Row::Number("Read Latency", 4),
+    Row::Number("Write Latency", 4),
+    Row::Number("Read Bandwidth", 4),
+    Row::Number("Write Bandwidth", 4),
+    Row::Number("Optimal Access Unit", 2),
+    Row::Number("Optimal Access Alignment", 2),
+    Row::Reserved(2),
+    Row::Number("Number of Proximity Domains", 2),
+];
+
+const EARLIER_DIMM: [Row; 9] = [
+    Row::Preset("Type", 1, 2),
+    Row::Reserved(1),
+    Row::Number("Length", 2),
+    Row::Flags("Flags", 2, &DEVICE_FLAGS),
+    Row::Reserved(2),
+    Row::Number("Physical Component Identifier", 2),
+    Row::Reserved(2),
+    Row::Number("Size of DIMM", 4),
+    Row::Hex("SMBIOS Handle", 4),
+];
+
+// What a socket contains after its fields. The length of a controller contains the DIMMs below it, which follow in the same list.
+// So its own size is that of its fields, 32 bytes, and of its domains.
+const BELOW_SOCKET: [InnerList; 1] = [InnerList {
+    count: Count::Rest,
+    kind: Place::Byte(0),
+    forms: &[
+        InnerForm {
+            number: 1,
+            name: "Memory Controller",
+            size: InnerSize::Counted(32, Place::Word(30), 4),
+            parts: &[
+                Part::Fields(&EARLIER_CONTROLLER),
+                Part::Numbers("Proximity Domain", 4, Count::Field(Place::Word(30))),
+            ],
+        },
+        InnerForm {
+            number: 2,
+            name: "DIMM",
+            size: InnerSize::Walked(Sizes::ToldAt(Place::Word(2))),
+            parts: &[Part::Fields(&EARLIER_DIMM)],
+        },
+    ],
+}];
+
+const EARLIER_DEVICES: [StructureForm; 3] = [
+    StructureForm {
+        number: 0,
+        name: "Socket",
+        parts: &[Part::Fields(&EARLIER_SOCKET)],
+        inner: &Inner::Lists(Start::At(12), &BELOW_SOCKET),
+    },
+    StructureForm {
+        number: 1,
+        name: "Memory Controller",
+        parts: &[
+            Part::Fields(&EARLIER_CONTROLLER),
+            Part::Numbers("Proximity Domain", 4, Count::Field(Place::Word(30))),
+            Part::Entries("DIMM", Count::Rest, &EARLIER_DIMM),
+        ],
+        inner: &Inner::Nothing,
+    },
+    StructureForm {
+        number: 2,
+        name: "DIMM",
+        parts: &[Part::Fields(&EARLIER_DIMM)],
+        inner: &Inner::Nothing,
+    },
+];
+
+const EARLIER_PMTT: TableForm = TableForm {
+    name: "Platform Memory Topology Table (PMTT) of revision 1",
+    parts: &[Part::Fields(&HEADER), Part::Fields(&[Row::Reserved(4)])],
+    structures: &EARLIER_DEVICES,
+    further: &[],
+    inner: &Inner::Nothing,
+};
+
+/// Returns the form of a Platform Memory Topology Table of revision 1 (ACPI 6.3, 5.2.21), whose layout is written from memory. A
+/// socket contains its memory controllers, and these contain their proximity domains and their DIMMs. So the length of a device
+/// (offset 2, 2 bytes) counts all that is below it, too.
+pub fn earlier_pmtt_form() -> TableForm
+    ensures { IsNamed result earlier_pmtt_names }
+{
+    EARLIER_PMTT
+}

@@ -3,7 +3,7 @@
 use acpi_base::row::{Bits, Row, Word};
 use acpi_base::walk::{Place, Sizes, Walk};
 use acpi_text::form::{
-    Count, Inner, InnerForm, InnerList, InnerSize, Part, Start, StructureForm, TableForm,
+    Choice, Count, Inner, InnerForm, InnerList, InnerSize, Part, Start, StructureForm, TableForm,
 };
 use acpi_text::table::show_by;
 use std::test::Fail;
@@ -64,6 +64,84 @@ fn names_and_places(rt: HostRuntime) -> Result<(), Fail> {
         \0\0\0\x80\x0a\0\0\0";
     agree(&show_by(rt.alloc(), &FORM, None, bytes)?, lines)?;
     agree(&show_by(rt.alloc(), &FORM, None, b"")?, "?\n")
+}
+
+const SIZES: [Choice; 2] = [
+    Choice {
+        number: 3,
+        name: "Three",
+        rows: &LETTERS,
+    },
+    Choice {
+        number: 0,
+        name: "None",
+        rows: &[Row::Number("A", 1)],
+    },
+];
+
+const BY_SIZE: TableForm = TableForm {
+    name: "Sizes",
+    parts: &[
+        Part::Fields(&[Row::Number("From", 1), Row::Number("To", 1)]),
+        Part::BySize(Place::Byte(0), Place::Byte(1), &SIZES),
+    ],
+    structures: &[],
+    further: &[],
+    inner: &Inner::Nothing,
+};
+
+// The size is that between the offsets in both fields, 5 - 2, or that up to the end if the second isn't past the first, 5 - 2, too.
+// Without a choice of this size the bytes have no names. The size is 0 if the first is past the end.
+#[test]
+fn choices_by_size(rt: HostRuntime) -> Result<(), Fail> {
+    let between = "\
+Sizes
+  0 From                                : 02
+  1 To                                  : 05
+  2 Three
+    2 A                                 : 0a  // 10
+    3 B                                 : 0b  // 11
+    4 C                                 : 0c  // 12
+  5 Bytes                               : 0d
+";
+    let to_end = "\
+Sizes
+  0 From                                : 02
+  1 To                                  : 02
+  2 Three
+    2 A                                 : 0a  // 10
+    3 B                                 : 0b  // 11
+    4 C                                 : 0c  // 12
+";
+    let no_choice = "\
+Sizes
+  0 From                                : 02
+  1 To                                  : 04
+  2 Bytes                               : 0a 0b
+";
+    let past_end = "\
+Sizes
+  0 From                                : 09
+  1 To                                  : 00
+  2 None
+    2 A                                 : 0a  // 10
+";
+    agree(
+        &show_by(rt.alloc(), &BY_SIZE, None, b"\x02\x05\x0a\x0b\x0c\x0d")?,
+        between,
+    )?;
+    agree(
+        &show_by(rt.alloc(), &BY_SIZE, None, b"\x02\x02\x0a\x0b\x0c")?,
+        to_end,
+    )?;
+    agree(
+        &show_by(rt.alloc(), &BY_SIZE, None, b"\x02\x04\x0a\x0b")?,
+        no_choice,
+    )?;
+    agree(
+        &show_by(rt.alloc(), &BY_SIZE, None, b"\x09\x00\x0a")?,
+        past_end,
+    )
 }
 
 const INNER: TableForm = TableForm {

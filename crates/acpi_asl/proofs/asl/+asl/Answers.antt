@@ -22,7 +22,7 @@ push_terms-returns t c = going_done _ _ _ _ _ _ _ c.loop-term.invariant c.loop-t
 pub push_term-returns : goal.push_term-returns
 push_term-returns t c =
     let p = c.parts_of-parts.result in
-    one_written c.args.place c.args.depth c.args.term.now _ _ p.first.now p.others.now c.parts_of-parts.ensures _ _ c.is_left_out-left_out.ensures c.in_ok-inner.ensures _ _ _ _ c.in_ok-push_before.ensures c.in_ok-push_whole.ensures c.in_ok-push_after.ensures
+    one_written c.args.place c.args.depth c.args.term.now _ _ p.first.now p.others.now c.parts_of-parts.ensures _ _ c.is_left_out-left_out.ensures c.in_ok-inner.ensures _ _ _ _ _ c.in_ok-push_before.ensures c.in_ok-push_note.ensures c.in_ok-push_whole.ensures c.in_ok-push_after.ensures
 
 pub push_whole-push_terms-requires : goal.push_whole-push_terms-requires
 push_whole-push_terms-requires t c =

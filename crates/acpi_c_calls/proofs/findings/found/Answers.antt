@@ -3,7 +3,7 @@ use Rattle.acpi_base.specs.Bytes.{field_at}
 use Rattle.acpi_base.specs.FurtherWalk.{table_walk_of}
 use Rattle.acpi_base.specs.Table.{IsTrueTable}
 use Rattle.acpi_forms.specs.Kind.{kind_of}
-use Rattle.acpi_forms.specs.Named.{names_of}
+use Rattle.acpi_forms.specs.Layout.{names_in}
 use Rattle.acpi_make.specs.declared.file_kind.FileKind.TheVariants.{Rsdp, Facs, Cdat, S3pt, Table}
 use Rattle.acpi_c_calls.specs.Findings.{AreLinesBy}
 use Rattle.acpi_c_calls.proofs.Ruled.{outcome}
@@ -33,5 +33,5 @@ pub returns-in_ok-table-in-Table : goal.returns-in_ok-table-in-Table
 returns-in_ok-table-in-Table c =
     let kind : kind_of c.args.bytes.now ≡ Table = search rules in
     let table : IsTrueTable c.args.bytes.now = search rules in
-    let are : IfOk c.table_lines.result (λ text. AreLinesBy (names_of (field_at 0 4 c.args.bytes.now)) (table_walk_of (field_at 0 4 c.args.bytes.now)) c.args.bytes.now text.items) = search rules in
+    let are : IfOk c.table_lines.result (λ text. AreLinesBy (names_in (field_at 0 4 c.args.bytes.now) c.args.bytes.now) (table_walk_of (field_at 0 4 c.args.bytes.now)) c.args.bytes.now text.items) = search rules in
     outcome (λ text. text.items) c.table_lines.result Table c.args.bytes.now kind table are c.table_lines.ensures.err

@@ -1,0 +1,51 @@
+//! What the comments before a term say for which ASL has no word.
+
+use crate::node::Node;
+
+// The characters of a note after this front.
+fn after<'a>(note: &'a [u8], front: &[u8]) -> Option<&'a [u8]> {
+    if note.starts_with(front) {
+        note.get(front.len()..)
+    } else {
+        None
+    }
+}
+
+// The width that a note on a PkgLength has, and what follows the note.
+fn length_note(note: &[u8]) -> Option<(u8, &[u8])> {
+    match after(note, b"/*= PkgLength ") {
+        Some([digit @ b'2'..=b'4', b' ', b'*', b'/', rest @ ..]) => Some((*digit - b'0', rest)),
+        _ => None,
+    }
+}
+
+// A note without the width of a PkgLength.
+fn rest_of(note: &[u8]) -> &[u8] {
+    match length_note(note) {
+        Some((_, rest)) => rest,
+        None => note,
+    }
+}
+
+impl Node<'_> {
+    /// The number of bytes of the term's PkgLength, if a note says it.
+    pub fn length(&self) -> Option<u8> {
+        let (width, _) = length_note(self.note)?;
+        Some(width)
+    }
+
+    /// Whether a note says that the term is a VarPackage.
+    pub fn is_var_package(&self) -> bool {
+        rest_of(self.note) == b"/*= VarPackage */".as_slice()
+    }
+
+    /// Whether a note says that an External statement stands in no block of such statements.
+    pub fn stands_alone(&self) -> bool {
+        self.note == b"/*= Alone */".as_slice()
+    }
+
+    /// Whether the note is known that stands before a term.
+    pub fn has_known_note(&self) -> bool {
+        rest_of(self.note).is_empty() || self.is_var_package() || self.stands_alone()
+    }
+}

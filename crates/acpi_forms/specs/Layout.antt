@@ -1,0 +1,77 @@
+-- Which layout a table has, and the names of its form. Two signatures have two layouts.
+use Rattle.std.specs.Prelude.{◌≡◌, ℕ, nat_le, ◌==◌, ◌&&◌, not, Bool, false, if◌then◌else◌, List, [], ◌++◌, drop, codes}
+use Rattle.acpi_base.specs.Walk.{named}
+use Rattle.acpi_base.specs.declared.walk.Place.TheVariants.{Byte, Word, DWord}
+use Rattle.acpi_forms.specs.FurtherNames.{earlier_pmtt_names, specified_rimt_names}
+use Rattle.acpi_forms.specs.Named.{Named, names_of}
+use Rattle.acpi_forms.specs.declared.layout.Layout.{Layout}
+use Rattle.acpi_forms.specs.declared.layout.Layout.TheVariants.{Usual, SpecifiedRimt, EarlierPmtt}
+use Rattle.acpi_make.specs.Signature.{has_line}
+use Rattle.acpi_make.specs.declared.item.Item.{Item}
+use Rattle.acpi_nodes.specs.Rimt.{iommu_bytes, root_complex_bytes, platform_bytes}
+use Rattle.acpi_nodes.specs.declared.rimt.Iommu.{Iommu}
+use Rattle.acpi_nodes.specs.declared.rimt.PcieRootComplex.{PcieRootComplex}
+use Rattle.acpi_nodes.specs.declared.rimt.Platform.{Platform}
+use Rattle.acpi_text.specs.Form.{number_at}
+
+-- ---- nodes of a RIMT of the RISC-V specification
+
+-- the wires begin at 40, and not at 32, which the profile has at 30
+abbrev pub is_specified_iommu : List ℕ → Bool
+is_specified_iommu node =
+    not (number_at (Word 30) node == 32) && nat_le 40 (number_at (Word 2) node) && number_at (Word 38) node == 40
+
+-- the mappings begin at 20, and not at 16, which the profile has at 12
+abbrev pub is_specified_root_complex : List ℕ → Bool
+is_specified_root_complex node =
+    not (number_at (Word 12) node == 16) && nat_le 20 (number_at (Word 2) node) && number_at (Word 16) node == 20
+
+-- the ID is at 6, and the bytes at 4 are reserved, where the profile has the ID at 4, and the bytes at 6 are reserved
+abbrev pub is_specified_platform : List ℕ → Bool
+is_specified_platform node =
+    not (number_at (Word 6) node == 0) && nat_le 12 (number_at (Word 2) node) && number_at (Word 4) node == 0
+
+abbrev pub is_specified_node : List ℕ → Bool
+is_specified_node node =
+    if number_at (Byte 0) node == 0 then is_specified_iommu node
+    else (if number_at (Byte 0) node == 1 then is_specified_root_complex node
+    else (if number_at (Byte 0) node == 2 then is_specified_platform node
+    else false))
+
+-- Nodes of this project's profile are none of these, and neither is the end of a table without nodes.
+pub record WrittenAreUsual : Type 0 where
+  pub iommus : (i : Iommu) (rest : List ℕ) → is_specified_node (iommu_bytes i ++ rest) ≡ false
+  pub root_complexes : (c : PcieRootComplex) (rest : List ℕ) → is_specified_node (root_complex_bytes c ++ rest) ≡ false
+  pub platforms : (p : Platform) (rest : List ℕ) → is_specified_node (platform_bytes p ++ rest) ≡ false
+  pub nothing : is_specified_node [] ≡ false
+
+-- ---- the layout of a table
+
+-- of bytes: the first node of a RIMT, whose offset is at 40, and the revision of a PMTT
+abbrev pub layout_in : ℕ → List ℕ → Layout
+layout_in signature bytes =
+    if signature == named (codes "RIMT") && is_specified_node (drop (number_at (DWord 40) bytes) bytes) then SpecifiedRimt
+    else (if signature == named (codes "PMTT") && number_at (Byte 8) bytes == 1 then EarlierPmtt
+    else Usual)
+
+-- of a text: a field of the table itself that only one of the two layouts has
+abbrev pub layout_of_text : ℕ → List ℕ → List Item → Layout
+layout_of_text signature text parts =
+    if signature == named (codes "RIMT") && has_line (codes "Offset to RIMT Node Array") text parts then SpecifiedRimt
+    else (if signature == named (codes "PMTT") && not (has_line (codes "Number of Memory Devices") text parts) then EarlierPmtt
+    else Usual)
+
+-- ---- the names of a layout
+
+abbrev pub names_as : Layout → ℕ → Named
+names_as Usual signature = names_of signature
+names_as SpecifiedRimt signature = specified_rimt_names
+names_as EarlierPmtt signature = earlier_pmtt_names
+
+-- those of a table of a signature
+unfoldable pub names_in : ℕ → List ℕ → Named
+names_in signature bytes = names_as (layout_in signature bytes) signature
+
+-- those of the table of a text
+unfoldable pub names_of_text : ℕ → List ℕ → List Item → Named
+names_of_text signature text parts = names_as (layout_of_text signature text parts) signature

@@ -1,0 +1,148 @@
+//! The form of a table by its bytes, and by its text. Two signatures have two layouts.
+
+ghost use Rattle.std.specs.Prelude.{◌≡◌, drop};
+ghost use Rattle.acpi_forms.specs.Layout.{is_specified_iommu, is_specified_root_complex, is_specified_platform};
+ghost use Rattle.acpi_forms.specs.Layout.{is_specified_node};
+ghost use Rattle.acpi_forms.specs.Layout.{WrittenAreUsual};
+ghost use Rattle.acpi_forms.specs.Layout.{layout_in, layout_of_text, names_as, names_in, names_of_text};
+ghost use Rattle.acpi_forms.specs.Named.{IsNamed};
+
+use crate::form::form_of;
+use crate::further::pmtt::earlier_pmtt_form;
+use crate::further::rimt::specified_rimt_form;
+use acpi_base::walk::Place;
+use acpi_make::item::Item;
+use acpi_make::signature::has_line;
+use acpi_text::form::TableForm;
+use acpi_text::part::number_at;
+
+/// Which layout a table has.
+#[derive(Clone, Copy, Debug, PartialEq, Eq)]
+pub enum Layout {
+    /// The one layout of its signature, or, of a RIMT, this project's profile, and of a PMTT the one of revision 2.
+    Usual,
+    /// That of a RIMT of the RISC-V specification.
+    SpecifiedRimt,
+    /// That of a PMTT of revision 1.
+    EarlierPmtt,
+}
+
+// Returns the bytes from an offset on.
+fn from_offset(offset: usize, bytes: &[u8]) -> &[u8]
+    ensures { result.now ≡ drop offset bytes.now }
+{
+    if offset < bytes.len() {
+        &bytes[offset..]
+    } else {
+        &[]
+    }
+}
+
+// Returns whether an IOMMU has the layout of the specification, in which its wires begin at 40. In the profile they begin at 32,
+// and the field that says so is at 30.
+fn is_specified_iommu(node: &[u8]) -> bool
+    ensures { result ≡ is_specified_iommu node.now }
+{
+    number_at(Place::Word(30), node) != 32
+        && number_at(Place::Word(2), node) >= 40
+        && number_at(Place::Word(38), node) == 40
+}
+
+// Returns whether a root complex has it: its mappings begin at 20. In the profile they begin at 16, and the field that says so
+// is at 12.
+fn is_specified_root_complex(node: &[u8]) -> bool
+    ensures { result ≡ is_specified_root_complex node.now }
+{
+    number_at(Place::Word(12), node) != 16
+        && number_at(Place::Word(2), node) >= 20
+        && number_at(Place::Word(16), node) == 20
+}
+
+// Returns whether a platform device has it: its ID is at 6. In the profile it is at 4, and the bytes at 6 are reserved.
+fn is_specified_platform(node: &[u8]) -> bool
+    ensures { result ≡ is_specified_platform node.now }
+{
+    number_at(Place::Word(6), node) != 0
+        && number_at(Place::Word(2), node) >= 12
+        && number_at(Place::Word(4), node) == 0
+}
+
+// Returns whether a node has it.
+fn is_specified_node(node: &[u8]) -> bool
+    ensures { result ≡ is_specified_node node.now }
+{
+    match number_at(Place::Byte(0), node) {
+        0 => is_specified_iommu(node),
+        1 => is_specified_root_complex(node),
+        2 => is_specified_platform(node),
+        _ => false,
+    }
+}
+
+// Returns the layout of a table of a signature. The first node of a RIMT, whose offset is at 40, says which layout the table has.
+// Where it doesn't, the table has that of the profile.
+fn layout_in(signature: u32, bytes: &[u8]) -> Layout
+    ensures { result ≡ layout_in signature bytes.now }
+{
+    if signature == u32::from_le_bytes(*b"RIMT")
+        && is_specified_node(from_offset(number_at(Place::DWord(40), bytes), bytes))
+    {
+        Layout::SpecifiedRimt
+    } else if signature == u32::from_le_bytes(*b"PMTT") && number_at(Place::Byte(8), bytes) == 1 {
+        Layout::EarlierPmtt
+    } else {
+        Layout::Usual
+    }
+}
+
+// Returns the layout of the table of a text, by a field of the table itself that only one of the two layouts has.
+fn layout_of_text(signature: u32, text: &[u8], items: &[Item]) -> Layout
+    ensures { result ≡ layout_of_text signature text.now items.now }
+{
+    if signature == u32::from_le_bytes(*b"RIMT")
+        && has_line(b"Offset to RIMT Node Array", text, items)
+    {
+        Layout::SpecifiedRimt
+    } else if signature == u32::from_le_bytes(*b"PMTT")
+        && !has_line(b"Number of Memory Devices", text, items)
+    {
+        Layout::EarlierPmtt
+    } else {
+        Layout::Usual
+    }
+}
+
+// Returns the form of the tables of a signature that have a layout.
+fn form_as(layout: Layout, signature: u32) -> TableForm
+    ensures { IsNamed result (names_as layout signature) }
+{
+    match layout {
+        Layout::Usual => form_of(signature),
+        Layout::SpecifiedRimt => specified_rimt_form(),
+        Layout::EarlierPmtt => earlier_pmtt_form(),
+    }
+}
+
+/// A law: what library calls write is never taken for a table of the specification. This holds of each node that can be the first
+/// one, for all values of its fields, and whatever follows it.
+pub fn written_nodes_are_usual()
+    ensures { WrittenAreUsual }
+{}
+
+/// Returns the form of a table of a signature, by its bytes. A RIMT has the layout of the RISC-V specification if the fields of
+/// its first node say so for certain, and that of this project's profile otherwise. A PMTT of revision 1 (the byte at 8) has
+/// another layout than those of later revisions. All other tables have the form of their signature.
+#[tactic(auto, unfolding(crate::specs::Layout::names_in))]
+pub fn form_in(signature: u32, bytes: &[u8]) -> TableForm
+    ensures { IsNamed result (names_in signature bytes.now) }
+{
+    form_as(layout_in(signature, bytes), signature)
+}
+
+/// Returns the form of the table of a text, by the names of its fields.
+#[tactic(auto, unfolding(crate::specs::Layout::names_of_text))]
+pub fn form_of_text(signature: u32, text: &[u8], items: &[Item]) -> TableForm
+    ensures { IsNamed result (names_of_text signature text.now items.now) }
+{
+    form_as(layout_of_text(signature, text, items), signature)
+}
