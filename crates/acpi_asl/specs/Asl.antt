@@ -6,13 +6,14 @@ use Rattle.acpi_term.specs.Tree.{Head, Terms, end, term, count}
 use Rattle.acpi_term.specs.View.{Parts}
 use Rattle.acpi_asl.specs.declared.place.Body.TheVariants.{Statements}
 use Rattle.acpi_asl.specs.declared.place.Place.{Place}
+use Rattle.acpi_asl.specs.Content.{up_to_zero}
 use Rattle.acpi_asl.specs.Note.{note}
 use Rattle.acpi_asl.specs.Number.{hex, string_text}
 use Rattle.acpi_asl.specs.Opening.{further, opening}
-use Rattle.acpi_asl.specs.Place.{place, place_in, in_braces, next, place_after, is_statement, is_left_out, depth_in}
+use Rattle.acpi_asl.specs.Place.{place, place_in, in_braces, next, is_statement, is_left_out, depth_in}
 use Rattle.acpi_asl.specs.Place.{before, after, opened, closed}
 use Rattle.acpi_asl.specs.Row.{rows}
-use Rattle.acpi_asl.specs.Special.{is_special, special_text}
+use Rattle.acpi_asl.specs.Special.{is_external_block, block_note, is_special, special_text}
 
 -- ---- terms
 
@@ -25,12 +26,17 @@ abbrev pub texts : Place → ℕ → Terms → List ℕ
 texts p d end = []
 texts p d (term h w children others) =
     before p (is_left_out p h w) d
-    ++ note h w children
+    ++ note h w children ++ block_note p h children
     ++ (if is_special p h w children then special_text p h w children (depth_in p d)
     else around (is_statement p) h w (count children) (depth_in p d)
     (texts (place_in p h (count children)) (depth_in p d) children))
     ++ after p d
-    ++ texts (next p) d others
+    ++ texts (next p (is_external_block h children)) d others
+
+-- the place after terms
+abbrev pub place_after : Place → Terms → Place
+place_after p end = p
+place_after p (term h w children others) = place_after (next p (is_external_block h children)) others
 
 -- a term in a place, at its own depth
 abbrev pub whole : Place → ℕ → Parts → List ℕ
@@ -45,18 +51,9 @@ pub record AreWritten (p : Place) (d : ℕ) (ts : Terms) (left : Place) (old new
 
 -- ---- definition blocks
 
--- the number of characters up to the first zero
-abbrev pub zero_at : List ℕ → ℕ
-zero_at [] = 0
-zero_at (b ∷ bytes) = if b == 0 then 0 else 1 + zero_at bytes
-
--- characters up to the first zero
-abbrev pub until_zero : List ℕ → List ℕ
-until_zero bytes = take (zero_at bytes) bytes
-
--- this many characters of a header at an offset
+-- the characters of this many bytes of a header at an offset
 unfoldable pub header_text : ℕ → ℕ → List ℕ → List ℕ
-header_text offset n header = string_text (until_zero (take n (drop offset header)))
+header_text offset n header = string_text (up_to_zero (take n (drop offset header)))
 
 -- The arguments of the definition block with this header (ACPI 6.5, 5.2.6 and 19.6.29): the file, which the compiler names, the
 -- signature, the revision, the OEM, its name of the table, and its revision of the table.

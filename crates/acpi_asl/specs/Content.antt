@@ -61,15 +61,19 @@ between item from to = take (offset_of item to - offset_of item from) (drop (off
 
 -- ---- texts
 
--- characters, and a zero at the end
+-- ASCII characters, which compilers take in strings, and a zero at the end
 abbrev pub ends_in_zero : List ℕ → Bool
 ends_in_zero [] = false
-ends_in_zero (b ∷ rest) = if b == 0 then is_empty rest else ends_in_zero rest
+ends_in_zero (b ∷ rest) = if b == 0 then is_empty rest else nat_lt b 128 && ends_in_zero rest
+
+-- the number of characters up to the first zero
+abbrev pub zero_at : List ℕ → ℕ
+zero_at [] = 0
+zero_at (b ∷ rest) = if b == 0 then 0 else 1 + zero_at rest
 
 -- these characters
 abbrev pub up_to_zero : List ℕ → List ℕ
-up_to_zero [] = []
-up_to_zero (b ∷ rest) = if b == 0 then [] else b ∷ up_to_zero rest
+up_to_zero bytes = take (zero_at bytes) bytes
 
 -- the name of a resource source and its zero, which follow an index at an offset
 abbrev pub source_at : List ℕ → Offset → List ℕ

@@ -15,18 +15,19 @@ third c d = if c == 95 && d == 95 then [] else printable c ∷ fourth d
 abbrev pub second : ℕ → ℕ → ℕ → List ℕ
 second b c d = if b == 95 && c == 95 && d == 95 then [] else printable b ∷ third c d
 
--- Segments that keep their underscores: without them they would be words of ASL (ACPI 6.5, 19.2.5 and 19.2.7).
+-- Segments that keep their underscores: without them they would be words of ASL (ACPI 6.5, 19.2.5 and 19.2.7). All end with one.
 abbrev pub kept_segments : List (List ℕ)
 kept_segments =
-    codes "IF__" ∷ codes "OR__" ∷ codes "ADD_" ∷ codes "AND_" ∷ codes "LOR_" ∷ codes "MID_" ∷ codes "MOD_" ∷ codes "NOR_"
-    ∷ codes "NOT_" ∷ codes "ONE_" ∷ codes "PCC_" ∷ codes "XOR_" ∷ []
+    codes "IF__" ∷ codes "OR__" ∷ codes "ADD_" ∷ codes "AND_" ∷ codes "LOR_" ∷ codes "MEQ_" ∷ codes "MGE_" ∷ codes "MGT_"
+    ∷ codes "MID_" ∷ codes "MLE_" ∷ codes "MLT_" ∷ codes "MOD_" ∷ codes "MTR_" ∷ codes "NOR_" ∷ codes "NOT_" ∷ codes "ONE_"
+    ∷ codes "PCC_" ∷ codes "XOR_" ∷ []
 
 abbrev pub is_among : List (List ℕ) → List ℕ → Bool
 is_among [] s = false
 is_among (word ∷ words) s = if bytes_eq s word then true else is_among words s
 
 unfoldable pub is_kept : ℕ → ℕ → ℕ → ℕ → Bool
-is_kept a b c d = is_among kept_segments (a ∷ b ∷ c ∷ d ∷ [])
+is_kept a b c d = d == 95 && is_among kept_segments (a ∷ b ∷ c ∷ d ∷ [])
 
 abbrev pub pair_text : ℕ → ℕ → List ℕ
 pair_text a b = printable a ∷ printable b ∷ []

@@ -1,9 +1,10 @@
 -- Comments before a term for what ASL has no word for. `acpitool make` reads them.
-use Rattle.std.specs.Prelude.{ℕ, ◌+◌, ◌-◌, nat_lt, Bool, true, false, if◌then◌else◌, List, [], ◌++◌, length, codes}
+use Rattle.std.specs.Prelude.{ℕ, ◌+◌, ◌-◌, ◌==◌, nat_lt, Bool, true, false, if◌then◌else◌, List, [], ◌++◌, length, codes}
 use Rattle.std.specs.Fmt.{decimal}
-use Rattle.acpi_term.specs.Length.{limit}
+use Rattle.acpi_term.specs.Length.{limit, least_width}
 use Rattle.acpi_term.specs.Row.{Layout, bare, framed, layout}
 use Rattle.acpi_term.specs.Spelling.{spelling}
+use Rattle.acpi_term.specs.Tree.{Entry, named, reserved, connection_buffer}
 use Rattle.acpi_term.specs.Tree.{Head, number, def_external, def_var_package, Terms, end, term, count}
 
 -- the content that the length of a frame counts, besides itself
@@ -38,6 +39,17 @@ abbrev pub head_note : Head → Terms → List ℕ
 head_note def_var_package children = if is_number_first children then codes "/*= VarPackage */ " else []
 head_note (def_external name kind args) children = codes "/*= Alone */ "
 head_note _ children = []
+
+-- A compiler writes the bits of a field's entry, and the length of its buffer, in the least width of lengths.
+abbrev pub width_note : ℕ → ℕ → List ℕ
+width_note w n = if w == least_width n then [] else length_text w
+
+-- the comment before an entry of a field
+abbrev pub entry_note : Entry → List ℕ
+entry_note (named name bits w) = width_note w bits
+entry_note (reserved bits w) = width_note w bits
+entry_note (connection_buffer w size v bytes) = width_note w (1 + v + length bytes)
+entry_note _ = []
 
 -- the comments before a head with these children
 abbrev pub note : Head → ℕ → Terms → List ℕ

@@ -10,7 +10,6 @@ use Rattle.acpi_term.specs.Tree.{def_buffer, def_package, def_var_package, def_i
 use Rattle.acpi_term.specs.Tree.{def_leveled_method, def_processor, def_thermal_zone, def_roomy_package, def_index_field}
 use Rattle.acpi_term.specs.Tree.{def_bank_field}
 use Rattle.acpi_term.specs.Tree.{def_fatal, match_test}
-use Rattle.acpi_term.specs.Tree.{Terms, end, term}
 use Rattle.acpi_asl.specs.declared.place.Body.{Body}
 use Rattle.acpi_asl.specs.declared.place.Body.TheVariants.{Absent, Statements, Elements, Rows}
 use Rattle.acpi_asl.specs.declared.place.Place.{Place}
@@ -48,7 +47,8 @@ targets _ = 0
 
 -- this many arguments, after others of the term itself or not, of which the last ones are targets; and what is in the braces
 abbrev pub in_place : ℕ → Bool → ℕ → Body → Place
-in_place n led last body = record { arguments = n; led = led; targets = last; body = body; ids = false; uuids = false }
+in_place n led last body =
+    record { arguments = n; led = led; targets = last; body = body; ids = false; uuids = false; externals = false }
 
 -- in the braces alone
 abbrev pub in_braces : Body → Place
@@ -57,7 +57,28 @@ in_braces body = in_place 0 false 0 body
 -- the same, where numbers are ids or not, and buffers of 16 bytes are UUIDs or not
 abbrev pub with_ids : Bool → Bool → Place → Place
 with_ids ids uuids p =
-    record { arguments = p.arguments; led = p.led; targets = p.targets; body = p.body; ids = ids; uuids = uuids }
+    record {
+      arguments = p.arguments;
+      led = p.led;
+      targets = p.targets;
+      body = p.body;
+      ids = ids;
+      uuids = uuids;
+      externals = p.externals;
+    }
+
+-- the same, after a block of External statements or not
+abbrev pub with_externals : Bool → Place → Place
+with_externals externals p =
+    record {
+      arguments = p.arguments;
+      led = p.led;
+      targets = p.targets;
+      body = p.body;
+      ids = p.ids;
+      uuids = p.uuids;
+      externals = externals;
+    }
 
 -- the last four bytes of a name
 abbrev pub last_segment : List ℕ → List ℕ
@@ -112,14 +133,11 @@ place _ n = in_braces Absent
 abbrev pub place_in : Place → Head → ℕ → Place
 place_in p h n = with_ids (has_ids p.ids h) (has_uuids h) (place h n)
 
--- the place after one term
-abbrev pub next : Place → Place
-next p = with_ids p.ids p.uuids (in_place (p.arguments - 1) (not (p.arguments == 1)) p.targets p.body)
-
--- the place after terms
-abbrev pub place_after : Place → Terms → Place
-place_after p end = p
-place_after p (term h w children others) = place_after (next p) others
+-- the place after one term, which is a block of External statements or not
+abbrev pub next : Place → Bool → Place
+next p externals =
+    with_externals externals
+    (with_ids p.ids p.uuids (in_place (p.arguments - 1) (not (p.arguments == 1)) p.targets p.body))
 
 abbrev pub has_braces : Body → Bool
 has_braces Absent = false

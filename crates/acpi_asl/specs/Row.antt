@@ -8,6 +8,7 @@ use Rattle.acpi_asl.specs.Number.{hex, short_hex}
 use Rattle.acpi_asl.specs.declared.place.Body.TheVariants.{Rows}
 use Rattle.acpi_asl.specs.Connection.{access_text, extended_access_text, buffer_text, connection_text}
 use Rattle.acpi_asl.specs.Name.{segments_text, asl_name}
+use Rattle.acpi_asl.specs.Note.{entry_note}
 use Rattle.acpi_asl.specs.Opening.{field_rules}
 use Rattle.acpi_asl.specs.Place.{new_line, opened, closed}
 
@@ -37,7 +38,7 @@ row_comma first = if first then [] else codes ","
 abbrev pub entries_text : ℕ → Bool → ℕ → List Entry → List ℕ
 entries_text d first at [] = []
 entries_text d first at (e ∷ entries) =
-    row_comma first ++ new_line d ++ entry_text at e ++ entries_text d false (bit_after at e) entries
+    row_comma first ++ new_line d ++ entry_note e ++ entry_text at e ++ entries_text d false (bit_after at e) entries
 
 -- what stands before byte i: eight bytes are on a line
 abbrev pub byte_lead : ℕ → ℕ → List ℕ

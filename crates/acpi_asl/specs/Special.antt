@@ -40,6 +40,10 @@ is_external_block def_if children =
     is_zero_first children && not (is_end (after_first children)) && are_external (after_first children)
 is_external_block _ children = false
 
+-- A compiler makes one block of all External statements, so a block that follows another has a comment.
+abbrev pub block_note : Place → Head → Terms → List ℕ
+block_note p h children = if p.externals && is_external_block h children then codes "/*= Block */ " else []
+
 -- External statements at a depth, each on a line; the line of the first is begun
 abbrev pub externals_text : ℕ → Bool → Terms → List ℕ
 externals_text d first end = []

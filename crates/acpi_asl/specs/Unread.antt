@@ -8,8 +8,8 @@ use Rattle.acpi_asl.specs.Row.{bytes_text}
 
 -- the beginning of the comment, with the offset of the fault in the table, which begins with a header of 36 bytes
 abbrev pub lead_text : Option ℕ → List ℕ
-lead_text (Some offset) = codes "/* not read, at " ++ decimal (36 + offset) ++ codes ": "
-lead_text None = codes "/* not read, "
+lead_text (Some offset) = codes "/*= not read, at " ++ decimal (36 + offset) ++ codes ": "
+lead_text None = codes "/*= not read, "
 
 -- What is shown of bytes in place of the terms that they may be: why they can't be read, and the bytes, in rows.
 abbrev pub unread_text : ReadError → List ℕ → ℕ → List ℕ

@@ -151,6 +151,7 @@ region_spaces =
     ∷ (8, codes "GeneralPurposeIo")
     ∷ (9, codes "GenericSerialBus")
     ∷ (10, codes "PCC")
+    ∷ (11, codes "PlatformRtMechanism")
     ∷ (127, codes "FFixedHW")
     ∷ []
 

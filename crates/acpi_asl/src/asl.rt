@@ -4,13 +4,14 @@ ghost use Rattle.std.specs.Prelude.{◌≡◌, ◌++◌, codes, ◌+◌, ◌≤�
 ghost use Rattle.std.specs.Fmt.{decimal};
 ghost use Rattle.acpi_base.specs.Bytes.{field_at};
 ghost use Rattle.acpi_term.specs.View.{head_of, view, views, single};
-ghost use Rattle.acpi_asl.specs.Asl.{whole, texts, AreWritten, zero_at, until_zero, header_text, creator, definition};
+ghost use Rattle.acpi_asl.specs.Asl.{whole, texts, AreWritten, header_text, creator, definition};
 ghost use Rattle.acpi_asl.specs.Asl.{block_line, asl_text};
 ghost use Rattle.acpi_asl.specs.Number.{hex};
 ghost use Rattle.acpi_asl.specs.Opening.{further};
 ghost use Rattle.acpi_asl.specs.Row.{rows};
 ghost use Rattle.acpi_asl.specs.Place.{closed};
 
+use crate::content::up_to_zero;
 use crate::note::push_note;
 use crate::number::push_string;
 use crate::opening::{push_further_decimal, push_further_hex, push_opening};
@@ -19,9 +20,9 @@ use crate::place::{
     push_closed, push_opened,
 };
 use crate::row::push_rows;
-use crate::special::{is_special, push_special};
+use crate::special::{is_block, is_special, push_block_note, push_special};
 use acpi_read::bytes::dword_at;
-use acpi_term::apart::{Kind, parts_of};
+use acpi_term::apart::{Kind, Parts, parts_of};
 use acpi_term::term::Term;
 use std::alloc::{AllocError, Global};
 
@@ -33,6 +34,7 @@ const STATEMENTS: Place = Place {
     body: Body::Statements,
     ids: false,
     uuids: false,
+    externals: false,
 };
 
 #[cycle(asl)]
@@ -48,7 +50,7 @@ fn push_terms(
     let mut left = place;
     for term in terms {
         push_term(left, depth, term, text)?;
-        left = next(left);
+        left = next(left, is_block(term));
     }
     Ok(left)
 }
@@ -63,18 +65,23 @@ fn push_term(place: Place, depth: usize, term: &Term, text: &mut String) -> Resu
     let inner = depth_in(place, depth)?;
     push_before(place, left_out, depth, inner, text)?;
     push_note(parts, text)?;
-    push_whole(place, inner, term, text)?;
+    push_block_note(place, parts, text)?;
+    push_whole(place, inner, parts, text)?;
     push_after(place, depth, text)?;
     Ok(())
 }
 
 // Adds a term in a place, at its own depth.
 #[cycle(asl)]
-fn push_whole(place: Place, depth: usize, term: &Term, text: &mut String) -> Result<(), AllocError>
-    ensures { OnOk result
-        (string_bytes text.new ≡ string_bytes text.old ++ whole place depth (view term.now)) }
+fn push_whole(
+    place: Place,
+    depth: usize,
+    parts: Parts<'_>,
+    text: &mut String,
+) -> Result<(), AllocError>
+    ensures { OnOk result (string_bytes text.new ≡ string_bytes text.old ++ whole place depth
+        (head_of parts.entry.kind, parts.entry.width, views (parts.entry.first.now ++ parts.entry.others.now))) }
 {
-    let parts = parts_of(term);
     if is_special(place, parts) {
         return push_special(place, parts, depth, text);
     }
@@ -103,25 +110,6 @@ fn push_end(kind: Kind<'_>, body: Body, depth: usize, text: &mut String) -> Resu
     push_closed(body, depth, text)
 }
 
-// The number of characters up to the first zero.
-#[cycle(zero)]
-fn zero_at(bytes: &[u8]) -> usize
-    ensures is { result ≡ zero_at bytes.now }
-    ensures within { result ≤ length bytes.now }
-{
-    match bytes {
-        [] => 0,
-        [0, ..] => 0,
-        [_, rest @ ..] => 1 + zero_at(rest),
-    }
-}
-
-fn until_zero(bytes: &[u8]) -> &[u8]
-    ensures { result.now ≡ until_zero bytes.now }
-{
-    &bytes[..zero_at(bytes)]
-}
-
 #[tactic(auto, unfolding(crate::specs::Asl::header_text))]
 fn push_string_at(
     header: &[u8],
@@ -132,7 +120,7 @@ fn push_string_at(
     requires { offset + count ≤ length header.now }
     ensures { OnOk result (string_bytes text.new ≡ string_bytes text.old ++ header_text offset count header.now) }
 {
-    push_string(until_zero(&header[offset..offset + count]), text)
+    push_string(up_to_zero(&header[offset..offset + count]), text)
 }
 
 fn push_header_text(

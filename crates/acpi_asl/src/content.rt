@@ -1,8 +1,8 @@
 //! What is in a descriptor: bits, numbers, offsets and texts.
 
-ghost use Rattle.std.specs.Prelude.{◌≡◌, ◌+◌, ◌≤◌, ◌++◌, codes, slice_index_or, length, take, OnOk, string_bytes};
+ghost use Rattle.std.specs.Prelude.{◌≡◌, ◌+◌, ◌≤◌, ◌++◌, codes, slice_index_or, length, OnOk, string_bytes};
 ghost use Rattle.acpi_asl.specs.Content.{shifted, lowest, value_of, digits_at, are_zero, word_at, offset_of, between};
-ghost use Rattle.acpi_asl.specs.Content.{ends_in_zero, up_to_zero, source_at, holds, all_hold};
+ghost use Rattle.acpi_asl.specs.Content.{ends_in_zero, zero_at, up_to_zero, source_at, holds, all_hold};
 ghost use Rattle.acpi_asl.specs.Number.{upper_byte};
 ghost use Rattle.acpi_asl.specs.declared.descriptor.Check.TheVariants as checks;
 
@@ -131,28 +131,36 @@ fn ends_in_zero(bytes: &[u8]) -> bool
         if *byte == 0 {
             return more.is_empty();
         }
+        if *byte >= 128 {
+            return false;
+        }
         rest = more;
     }
     false
 }
 
-#[cycle(zero)]
-fn count_to_zero(bytes: &[u8]) -> usize
-    ensures is { take result bytes.now ≡ up_to_zero bytes.now }
+// The number of characters before the first zero.
+fn zero_at(bytes: &[u8]) -> usize
+    ensures is { result ≡ zero_at bytes.now }
     ensures within { result ≤ length bytes.now }
 {
-    match bytes {
-        [] => 0,
-        [0, ..] => 0,
-        [_, rest @ ..] => 1 + count_to_zero(rest),
+    let mut len = 0;
+    let mut rest = bytes;
+    'characters: while let [c, more @ ..] = rest {
+        if *c == 0 {
+            return len;
+        }
+        len += 1;
+        rest = more;
     }
+    len
 }
 
 /// The characters before the first zero.
 pub fn up_to_zero(bytes: &[u8]) -> &[u8]
     ensures { result.now ≡ up_to_zero bytes.now }
 {
-    &bytes[..count_to_zero(bytes)]
+    &bytes[..zero_at(bytes)]
 }
 
 /// Whether the bytes from an offset on are zero, this many of them.

@@ -50,8 +50,9 @@ fn push_second(b: u8, c: u8, d: u8, text: &mut String) -> Result<(), AllocError>
 }
 
 /// Segments that keep their underscores, since they would be words of ASL without them.
-const KEPT: [&str; 12] = [
-    "IF__", "OR__", "ADD_", "AND_", "LOR_", "MID_", "MOD_", "NOR_", "NOT_", "ONE_", "PCC_", "XOR_",
+const KEPT: [&str; 18] = [
+    "IF__", "OR__", "ADD_", "AND_", "LOR_", "MEQ_", "MGE_", "MGT_", "MID_", "MLE_", "MLT_", "MOD_",
+    "MTR_", "NOR_", "NOT_", "ONE_", "PCC_", "XOR_",
 ];
 
 fn is_among(words: &[&str], segment: &[u8]) -> bool
@@ -69,7 +70,7 @@ fn is_among(words: &[&str], segment: &[u8]) -> bool
 fn is_kept(a: u8, b: u8, c: u8, d: u8) -> bool
     ensures { result ≡ is_kept a b c d }
 {
-    is_among(&KEPT, &[a, b, c, d])
+    d == b'_' && is_among(&KEPT, &[a, b, c, d])
 }
 
 fn push_pair(a: u8, b: u8, text: &mut String) -> Result<(), AllocError>
@@ -129,21 +130,21 @@ pub fn segments_of(path: &[u8]) -> &[u8]
     }
 }
 
-#[cycle(name)]
 fn push_name_bytes(bytes: &[u8], text: &mut String) -> Result<(), AllocError>
     ensures { OnOk result (string_bytes text.new ≡ string_bytes text.old ++ asl_name bytes.now) }
 {
-    match bytes {
+    let mut rest = bytes;
+    'parents: while let [0x5e, more @ ..] = rest {
+        text.push('^')?;
+        rest = more;
+    }
+    match rest {
         [] => Ok(()),
-        [0x5c, rest @ ..] => {
+        [0x5c, more @ ..] => {
             text.push('\\')?;
-            push_segments(false, segments_of(rest), text)
+            push_segments(false, segments_of(more), text)
         }
-        [0x5e, rest @ ..] => {
-            text.push('^')?;
-            push_name_bytes(rest, text)
-        }
-        _ => push_segments(false, segments_of(bytes), text),
+        _ => push_segments(false, segments_of(rest), text),
     }
 }
 

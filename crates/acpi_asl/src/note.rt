@@ -4,14 +4,15 @@ ghost use Rattle.std.specs.Prelude.{◌≡◌, ℕ, ◌-◌, ◌++◌, length, O
 ghost use Rattle.acpi_term.specs.Length.{limit};
 ghost use Rattle.acpi_term.specs.Row.{layout};
 ghost use Rattle.acpi_term.specs.Spelling.{spelling};
-ghost use Rattle.acpi_term.specs.View.{head_of, view, views};
+ghost use Rattle.acpi_term.specs.View.{entry_view, head_of, view, views};
 ghost use Rattle.acpi_asl.specs.Note.{content, has_frame, is_long, length_text, length_note, is_number, is_number_first};
-ghost use Rattle.acpi_asl.specs.Note.{head_note, note};
+ghost use Rattle.acpi_asl.specs.Note.{head_note, note, width_note, entry_note};
 
 use crate::number::push_decimal;
 use crate::room::after_content;
 use acpi_term::apart::{Kind, Parts, frame_code, parts_of};
-use acpi_term::term::Term;
+use acpi_term::row::least_width;
+use acpi_term::term::{Term, TermEntry};
 use std::alloc::AllocError;
 
 fn has_frame(kind: Kind<'_>) -> bool
@@ -87,6 +88,35 @@ fn head_note(kind: Kind<'_>, first: &[Term], others: &[Term]) -> &'static str
         Kind::VarPackage if is_number_first(first, others) => "/*= VarPackage */ ",
         Kind::External(..) => "/*= Alone */ ",
         _ => "",
+    }
+}
+
+fn push_width_note(width: u8, n: usize, text: &mut String) -> Result<(), AllocError>
+    ensures { OnOk result (string_bytes text.new ≡ string_bytes text.old ++ width_note width n) }
+{
+    if width == least_width(n) {
+        return Ok(());
+    }
+    push_length_text(width, text)
+}
+
+/// Adds the comment before an entry of a field.
+pub fn push_entry_note(entry: &TermEntry, text: &mut String) -> Result<(), AllocError>
+    ensures { OnOk result (string_bytes text.new ≡ string_bytes text.old ++ entry_note (entry_view entry.now)) }
+{
+    match entry {
+        TermEntry::Named(_, bits, width) | TermEntry::Reserved(bits, width) => {
+            push_width_note(*width, *bits as usize, text)
+        }
+        TermEntry::ConnectionBuffer {
+            width,
+            size_width,
+            bytes,
+            ..
+        } => push_width_note(*width, 1 + usize::from(*size_width) + bytes.len(), text),
+        TermEntry::AccessAs(..) | TermEntry::ExtendedAccessAs(..) | TermEntry::Connection(_) => Ok(
+            (),
+        ),
     }
 }
 

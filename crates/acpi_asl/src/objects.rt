@@ -38,15 +38,19 @@ fn joined(alloc: Global, scope: &[u8], segments: &[u8]) -> Result<Vec<u8>, Alloc
 }
 
 // Returns the path of a name in a scope.
-#[cycle(path)]
 fn path_in(alloc: Global, scope: &[u8], name: &[u8]) -> Result<Vec<u8>, AllocError>
     ensures { IfOk result (λ path. path.items ≡ path_in scope.now name.now) }
 {
-    match name {
-        [] => Vec::from_slice(alloc, scope),
-        [0x5c, rest @ ..] => Vec::from_slice(alloc, segments_of(rest)),
-        [0x5e, rest @ ..] => path_in(alloc, parent(scope), rest),
-        _ => joined(alloc, scope, segments_of(name)),
+    let mut around = scope;
+    let mut rest = name;
+    'parents: while let [0x5e, more @ ..] = rest {
+        around = parent(around);
+        rest = more;
+    }
+    match rest {
+        [] => Vec::from_slice(alloc, around),
+        [0x5c, more @ ..] => Vec::from_slice(alloc, segments_of(more)),
+        _ => joined(alloc, around, segments_of(rest)),
     }
 }
 

@@ -36,6 +36,8 @@ pub struct Place {
     pub ids: bool,
     /// Whether buffers of 16 bytes are UUIDs: the operands of a comparison.
     pub uuids: bool,
+    /// Whether the term before is a block of External statements.
+    pub externals: bool,
 }
 
 /// How many of an operator's last operands are targets (ACPI 6.5, 19.2.5).
@@ -84,6 +86,7 @@ fn in_place(arguments: usize, led: bool, targets: usize, body: Body) -> Place
         body,
         ids: false,
         uuids: false,
+        externals: false,
     }
 }
 
@@ -159,12 +162,13 @@ pub fn place_in(place: Place, kind: Kind<'_>, count: usize) -> Place
         body: inside.body,
         ids: has_ids(place.ids, kind),
         uuids: has_uuids(kind),
+        externals: inside.externals,
     }
 }
 
-/// The place after one term.
-pub fn next(place: Place) -> Place
-    ensures { result ≡ next place }
+/// The place after one term, which is a block of External statements or not.
+pub fn next(place: Place, externals: bool) -> Place
+    ensures { result ≡ next place externals }
 {
     Place {
         arguments: place.arguments.saturating_sub(1),
@@ -173,6 +177,7 @@ pub fn next(place: Place) -> Place
         body: place.body,
         ids: place.ids,
         uuids: place.uuids,
+        externals,
     }
 }
 

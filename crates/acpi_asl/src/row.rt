@@ -6,6 +6,7 @@ ghost use Rattle.std.specs.Prelude.{IfOk, suc, string_bytes};
 ghost use Rattle.acpi_term.specs.View.{entry_view, head_of};
 ghost use Rattle.std.specs.Fmt.{decimal};
 ghost use Rattle.acpi_asl.specs.Name.{segments_text};
+ghost use Rattle.acpi_asl.specs.Note.{entry_note};
 ghost use Rattle.acpi_asl.specs.Number.{hex, short_hex};
 ghost use Rattle.acpi_asl.specs.Place.{new_line};
 ghost use Rattle.acpi_asl.specs.Row.{bit_after, entry_text, row_comma, entries_text, byte_lead, bytes_text, bank_rows, rows};
@@ -14,6 +15,7 @@ use crate::connection::{
     push_access, push_connection, push_connection_buffer, push_extended_access,
 };
 use crate::name::push_segments;
+use crate::note::push_entry_note;
 use crate::number::{push_decimal, push_hex, push_short_hex};
 use crate::opening::push_rules;
 use crate::place::{Body, push_closed, push_line, push_opened};
@@ -92,7 +94,7 @@ fn row_comma(first: bool) -> &'static str
     if first { "" } else { "," }
 }
 
-#[tactic(auto, using(acpi_read::proofs::Texts::after_three))]
+#[tactic(auto, using(acpi_read::proofs::Texts::after_four))]
 fn push_row(
     depth: usize,
     first: bool,
@@ -103,10 +105,11 @@ fn push_row(
 ) -> Result<(), AllocError>
     requires { after ≡ bit_after at (entry_view entry.now) }
     ensures { OnOk result (string_bytes text.new ≡ string_bytes text.old
-        ++ (row_comma first ++ new_line depth ++ entry_text at (entry_view entry.now))) }
+        ++ (row_comma first ++ new_line depth ++ entry_note (entry_view entry.now) ++ entry_text at (entry_view entry.now))) }
 {
     text.push_str(row_comma(first))?;
     push_line(depth, text)?;
+    push_entry_note(entry, text)?;
     push_entry(at, after, entry, text)
 }
 

@@ -7,7 +7,7 @@ ghost use Rattle.acpi_asl.specs.Eisa.{is_eisa, eisa_text};
 ghost use Rattle.acpi_asl.specs.Opening.{opening};
 ghost use Rattle.acpi_asl.specs.Place.{is_null, new_line};
 ghost use Rattle.acpi_asl.specs.Special.{is_external, are_external, is_end, after_first, is_zero_first, is_external_block};
-ghost use Rattle.acpi_asl.specs.Special.{externals_text, is_shortest, has_size, is_template_buffer, is_uuid, is_id_number};
+ghost use Rattle.acpi_asl.specs.Special.{block_note, externals_text, is_shortest, has_size, is_template_buffer, is_uuid, is_id_number};
 ghost use Rattle.acpi_asl.specs.Special.{to_uuid, is_unread, is_special, special_text};
 ghost use Rattle.acpi_asl.specs.Template.{template_text};
 
@@ -93,8 +93,8 @@ fn are_externals(first: &[Term], others: &[Term]) -> bool
     are_external(first) && are_external(others)
 }
 
-// Whether a term with the children in two lists is the block in which a compiler writes External statements.
-fn is_external_block(kind: Kind<'_>, first: &[Term], others: &[Term]) -> bool
+/// Whether a term with the children in two lists is the block in which a compiler writes External statements.
+pub fn is_external_block(kind: Kind<'_>, first: &[Term], others: &[Term]) -> bool
     ensures { result ≡ is_external_block (head_of kind.entry) (views (first.now ++ others.now)) }
 {
     match kind {
@@ -103,6 +103,26 @@ fn is_external_block(kind: Kind<'_>, first: &[Term], others: &[Term]) -> bool
             is_zero_first(first, others) && !are_ended(more, rest) && are_externals(more, rest)
         }
         _ => false,
+    }
+}
+
+/// Whether a term is such a block.
+pub fn is_block(term: &Term) -> bool
+    ensures { result ≡ is_external_block (view term.now).0 (view term.now).2 }
+{
+    let parts = parts_of(term);
+    is_external_block(parts.kind, parts.first, parts.others)
+}
+
+/// Adds the comment before a term in a place, if it is a block of External statements after another.
+pub fn push_block_note(place: Place, parts: Parts<'_>, text: &mut String) -> Result<(), AllocError>
+    ensures { OnOk result (string_bytes text.new ≡ string_bytes text.old ++ block_note place (head_of parts.entry.kind)
+        (views (parts.entry.first.now ++ parts.entry.others.now))) }
+{
+    if place.externals && is_external_block(parts.kind, parts.first, parts.others) {
+        text.push_str("/*= Block */ ")
+    } else {
+        Ok(())
     }
 }
 

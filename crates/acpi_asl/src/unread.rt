@@ -15,9 +15,9 @@ use std::alloc::AllocError;
 // Adds the beginning of the comment with a place.
 fn push_place(place: usize, text: &mut String) -> Result<(), AllocError>
     ensures { OnOk result (string_bytes text.new ≡ string_bytes text.old
-        ++ (codes "/* not read, at " ++ decimal place ++ codes ": ")) }
+        ++ (codes "/*= not read, at " ++ decimal place ++ codes ": ")) }
 {
-    text.push_str("/* not read, at ")?;
+    text.push_str("/*= not read, at ")?;
     push_decimal(place as u64, text)?;
     text.push_str(": ")?;
     Ok(())
@@ -28,7 +28,7 @@ fn push_lead(offset: Option<usize>, text: &mut String) -> Result<(), AllocError>
     ensures { OnOk result (string_bytes text.new ≡ string_bytes text.old ++ lead_text offset) }
 {
     let Some(offset) = offset else {
-        return text.push_str("/* not read, ");
+        return text.push_str("/*= not read, ");
     };
     // No block has so many bytes.
     let Some(place) = BODY.checked_add(offset) else {

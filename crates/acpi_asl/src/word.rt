@@ -131,7 +131,7 @@ const LOCK_RULES: [(u8, &str); 2] = [(0, "NoLock"), (1, "Lock")];
 const UPDATE_RULES: [(u8, &str); 3] = [(0, "Preserve"), (1, "WriteAsOnes"), (2, "WriteAsZeros")];
 
 /// Address spaces (RegionSpaceKeyword).
-pub const REGION_SPACES: [(u8, &str); 12] = [
+pub const REGION_SPACES: [(u8, &str); 13] = [
     (0, "SystemMemory"),
     (1, "SystemIO"),
     (2, "PCI_Config"),
@@ -143,6 +143,7 @@ pub const REGION_SPACES: [(u8, &str); 12] = [
     (8, "GeneralPurposeIo"),
     (9, "GenericSerialBus"),
     (10, "PCC"),
+    (11, "PlatformRtMechanism"),
     (127, "FFixedHW"),
 ];
 

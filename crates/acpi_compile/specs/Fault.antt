@@ -23,6 +23,7 @@ words why.Keyword = codes "another keyword is expected"
 words why.Entry = codes "not an entry of a field"
 words why.Descriptor = codes "no macro of a resource descriptor, or other arguments are expected"
 words why.Note = codes "the note isn't known here"
+words why.Unread = codes "bytes that aren't read make no block"
 words why.TooLong = codes "a length or a number is too large"
 words (why.Otherwise word) = otherwise word.items
 

@@ -97,11 +97,17 @@ abbrev pub front_len : List ℕ → ℕ
 front_len [] = 0
 front_len (c ∷ rest) = if is_word c then 1 + front_len rest else 0
 
--- the number of characters of the word at the front; a character outside of words stands alone
+-- the number of characters up to the end of a note
+abbrev pub note_len : List ℕ → ℕ
+note_len (a ∷ b ∷ rest) = if a == 42 && b == 47 then 2 else 1 + note_len (b ∷ rest)
+note_len (a ∷ []) = 1
+note_len [] = 0
+
+-- the number of characters of the word or the note at the front; any other character stands alone
 abbrev pub word_len : List ℕ → ℕ
 word_len [] = 0
-word_len (c ∷ rest) = if is_word c then 1 + front_len rest else 1
+word_len (c ∷ rest) = if is_word c then 1 + front_len rest else (if c == 47 then 1 + note_len rest else 1)
 
--- the word at a place of kept characters; none at their end
+-- the word or the note at a place of kept characters; none at their end
 abbrev pub word_at : ℕ → List ℕ → List ℕ
 word_at at kept = take (word_len (drop at kept)) (drop at kept)

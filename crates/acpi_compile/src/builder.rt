@@ -56,16 +56,18 @@ impl<'a> Builder<'a> {
         self.note = between(text, from.saturating_sub(self.note.len()), to);
     }
 
-    // Adds an empty word, unless a node follows the last comma.
+    // Adds an empty word with the notes before it, unless a node follows the last comma.
     fn fill(&mut self, at: usize) -> Result<(), AslError> {
         if !self.inner.filled {
-            self.inner.nodes.push(word_node(at, &[], &[]))?;
+            self.inner.nodes.push(word_node(at, self.note, &[]))?;
+            self.note = &[];
         }
         Ok(())
     }
 
     fn comma(&mut self, at: usize) -> Result<(), AslError> {
         self.fill(at)?;
+        self.no_note(at)?;
         self.inner.commas = true;
         self.inner.filled = false;
         Ok(())
@@ -114,14 +116,25 @@ impl<'a> Builder<'a> {
         Ok(())
     }
 
+    // Refuses a note before which a word is wanted.
+    fn no_note(&self, at: usize) -> Result<(), AslError> {
+        if self.note.is_empty() {
+            Ok(())
+        } else if self.note.starts_with(b"/*= not read") {
+            Err(fault(at, Why::Unread))
+        } else {
+            Err(fault(at, Why::Note))
+        }
+    }
+
     // Adds a character that isn't part of a word.
     fn mark(&mut self, at: usize, c: u8) -> Result<(), AslError> {
-        if !self.note.is_empty() {
-            return Err(fault(at, Why::Note));
+        if c == b',' {
+            return self.comma(at);
         }
+        self.no_note(at)?;
         match c {
             b' ' => Ok(()),
-            b',' => self.comma(at),
             b'(' => self.open(at, false),
             b')' => self.close(at, false),
             b'{' => self.open(at, true),

@@ -6,7 +6,7 @@ use crate::fault::AslError;
 use crate::node::{Node, list_of};
 use crate::sized::{Sized, frame, plus};
 use acpi_asl::word::Keyword;
-use acpi_term::term::Term;
+use acpi_term::term::{FieldNames, Term};
 use std::alloc::Global;
 
 /// An object of another block.
@@ -128,11 +128,16 @@ pub fn index_field(alloc: Global, node: &Node<'_>) -> Result<Sized, AslError> {
     Ok(Sized {
         term: Term::IndexField {
             width,
-            index,
-            name,
             access,
             lock,
             update,
+            names: Box::new(
+                alloc,
+                FieldNames {
+                    name,
+                    selector: index,
+                },
+            )?,
             entries,
         },
         size,

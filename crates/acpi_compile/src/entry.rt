@@ -24,6 +24,14 @@ fn wrong(node: &Node<'_>) -> AslError {
     fault(node.at, Why::Entry)
 }
 
+// The width of the length of an entry which a node begins: that of its note, or else the least one.
+fn width_of(node: &Node<'_>, n: usize) -> u8 {
+    match node.length() {
+        Some(width) => width,
+        None => least_width(n),
+    }
+}
+
 impl Entries {
     fn add(&mut self, entry: TermEntry, size: usize) -> Result<(), AslError> {
         self.entries.push(entry)?;
@@ -31,10 +39,10 @@ impl Entries {
         Ok(())
     }
 
-    // Adds bits without a name.
-    fn reserved(&mut self, bits: u32) -> Result<(), AslError> {
+    // Adds bits without a name, which a node begins.
+    fn reserved(&mut self, node: &Node<'_>, bits: u32) -> Result<(), AslError> {
         self.bit = self.bit.saturating_add(u64::from(bits));
-        let width = least_width(bits as usize);
+        let width = width_of(node, bits as usize);
         self.add(TermEntry::Reserved(bits, width), 1 + usize::from(width))
     }
 
@@ -47,13 +55,13 @@ impl Entries {
             return Err(wrong(node));
         }
         if name.is_absent() {
-            return self.reserved(bits);
+            return self.reserved(name, bits);
         }
         let Some(segment) = segment(name.word) else {
             return Err(wrong(name));
         };
         self.bit = self.bit.saturating_add(u64::from(bits));
-        let width = least_width(bits as usize);
+        let width = width_of(name, bits as usize);
         self.add(
             TermEntry::Named(segment, bits, width),
             4 + usize::from(width),
@@ -70,7 +78,7 @@ impl Entries {
         };
         let bits = byte.value.saturating_mul(8).saturating_sub(self.bit);
         match u32::try_from(bits) {
-            Ok(bits) => self.reserved(bits),
+            Ok(bits) => self.reserved(node, bits),
             Err(_) => Err(wrong(node)),
         }
     }
@@ -121,12 +129,12 @@ impl Entries {
             return Err(wrong(node));
         };
         if matches!(connection.word, b"Buffer") {
-            return self.raw(alloc, connection);
+            return self.raw(alloc, node, connection);
         }
         if is_keyword(connection.word) {
             let bytes = item(alloc, connection)?;
             let size = bytes.len() as u64;
-            return self.buffer(size, least_bytes(size), bytes);
+            return self.buffer(node, size, least_bytes(size), bytes);
         }
         let name = name(alloc, connection.at, connection.word)?;
         let size = name.as_bytes().len();
@@ -134,26 +142,33 @@ impl Entries {
     }
 
     // Adds a connection by a buffer that is no macro's.
-    fn raw(&mut self, alloc: Global, node: &Node<'_>) -> Result<(), AslError> {
-        let [size] = list_of(&node.arguments) else {
-            return Err(wrong(node));
+    fn raw(&mut self, alloc: Global, node: &Node<'_>, buffer: &Node<'_>) -> Result<(), AslError> {
+        let [size] = list_of(&buffer.arguments) else {
+            return Err(wrong(buffer));
         };
         let Some((size, width)) = size_of(size) else {
             return Err(wrong(size));
         };
         let mut bytes = Vec::new(alloc);
-        'bytes: for byte in list_of(&node.body) {
+        'bytes: for byte in list_of(&buffer.body) {
             let Some(number) = byte_of(byte) else {
                 return Err(wrong(byte));
             };
             bytes.push(number)?;
         }
-        self.buffer(size, width, bytes)
+        self.buffer(node, size, width, bytes)
     }
 
-    fn buffer(&mut self, size: u64, size_width: u8, bytes: Vec<u8>) -> Result<(), AslError> {
+    // Adds a connection by a buffer.
+    fn buffer(
+        &mut self,
+        node: &Node<'_>,
+        size: u64,
+        size_width: u8,
+        bytes: Vec<u8>,
+    ) -> Result<(), AslError> {
         let content = bytes.len().saturating_add(1 + usize::from(size_width));
-        let width = least_width(content);
+        let width = width_of(node, content);
         self.add(
             TermEntry::ConnectionBuffer {
                 width,

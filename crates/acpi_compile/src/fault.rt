@@ -38,6 +38,8 @@ pub enum Why {
     Descriptor,
     /// A note isn't known, or not here.
     Note,
+    /// A note has bytes that can't be read as terms.
+    Unread,
     /// A list, a number or a table is too long.
     TooLong,
     /// The ASL of the block has this word here.
@@ -109,6 +111,7 @@ impl Why {
                 "no macro of a resource descriptor, or other arguments are expected",
             ),
             Why::Note => text.push_str("the note isn't known here"),
+            Why::Unread => text.push_str("bytes that aren't read make no block"),
             Why::TooLong => text.push_str("a length or a number is too large"),
             Why::Otherwise(word) => push_otherwise(word, text),
         }

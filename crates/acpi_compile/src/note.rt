@@ -14,7 +14,7 @@ fn after<'a>(note: &'a [u8], front: &[u8]) -> Option<&'a [u8]> {
 // The width that a note on a PkgLength has, and what follows the note.
 fn length_note(note: &[u8]) -> Option<(u8, &[u8])> {
     match after(note, b"/*= PkgLength ") {
-        Some([digit @ b'2'..=b'4', b' ', b'*', b'/', rest @ ..]) => Some((*digit - b'0', rest)),
+        Some([digit @ b'1'..=b'4', b' ', b'*', b'/', rest @ ..]) => Some((*digit - b'0', rest)),
         _ => None,
     }
 }
@@ -28,7 +28,7 @@ fn rest_of(note: &[u8]) -> &[u8] {
 }
 
 impl Node<'_> {
-    /// The number of bytes of the term's PkgLength, if a note says it.
+    /// The number of bytes of the PkgLength of a term or of a field's entry, if a note says it.
     pub fn length(&self) -> Option<u8> {
         let (width, _) = length_note(self.note)?;
         Some(width)
@@ -44,8 +44,16 @@ impl Node<'_> {
         self.note == b"/*= Alone */".as_slice()
     }
 
+    /// Whether a note says that an External statement begins a block of such statements after another.
+    pub fn begins_block(&self) -> bool {
+        rest_of(self.note) == b"/*= Block */".as_slice()
+    }
+
     /// Whether the note is known that stands before a term.
     pub fn has_known_note(&self) -> bool {
-        rest_of(self.note).is_empty() || self.is_var_package() || self.stands_alone()
+        rest_of(self.note).is_empty()
+            || self.is_var_package()
+            || self.stands_alone()
+            || self.begins_block()
     }
 }

@@ -2,7 +2,7 @@
 
 ghost use Rattle.std.specs.Prelude.{◌≡◌, ◌≤◌, ◌++◌, length, OnOk, IfOk};
 ghost use Rattle.acpi_compile.specs.Squeeze.{is_word, is_white, gapped, next_in_code, next_state, code_bytes, emitted};
-ghost use Rattle.acpi_compile.specs.Squeeze.{ending, squeezed, line_of, front_len, word_len};
+ghost use Rattle.acpi_compile.specs.Squeeze.{ending, squeezed, line_of, front_len, note_len, word_len};
 ghost use Rattle.acpi_compile.specs.Squeeze.{word_at};
 
 use std::alloc::{AllocError, Global};
@@ -223,15 +223,37 @@ pub fn line_of(at: usize, text: &[u8]) -> usize
 }
 
 // Returns how many characters of a word are at the front.
-#[cycle(front)]
 fn front_len(kept: &[u8]) -> usize
     ensures len { result ≡ front_len kept.now }
     ensures within { result ≤ length kept.now }
 {
-    match kept {
-        [c, rest @ ..] if is_word(*c) => 1 + front_len(rest),
-        _ => 0,
+    let mut len = 0;
+    let mut rest = kept;
+    'front: while let [c, more @ ..] = rest {
+        if !is_word(*c) {
+            return len;
+        }
+        len += 1;
+        rest = more;
     }
+    len
+}
+
+// Returns how many characters there are up to the end of a note.
+fn note_len(kept: &[u8]) -> usize
+    ensures len { result ≡ note_len kept.now }
+    ensures within { result ≤ length kept.now }
+{
+    let mut len = 0;
+    let mut rest = kept;
+    'note: while let [_, more @ ..] = rest {
+        if let [b'*', b'/', ..] = rest {
+            return len + 2;
+        }
+        len += 1;
+        rest = more;
+    }
+    len
 }
 
 fn word_len(kept: &[u8]) -> usize
@@ -240,12 +262,13 @@ fn word_len(kept: &[u8]) -> usize
 {
     match kept {
         [c, rest @ ..] if is_word(*c) => 1 + front_len(rest),
+        [b'/', rest @ ..] => 1 + note_len(rest),
         [_, ..] => 1,
         [] => 0,
     }
 }
 
-/// Returns the word at a place of kept characters, or none at their end.
+/// Returns the word or the note at a place of kept characters, or none at their end.
 pub fn word_at(at: usize, kept: &[u8]) -> &[u8]
     ensures { result.now ≡ word_at at kept.now }
 {

@@ -13,7 +13,7 @@ use crate::sized::{Sized, SizedList, frame, number, plus};
 use crate::word::{byte_of, is_keyword, operator, operators};
 use acpi_asl::word::Keyword;
 use acpi_term::op::Op;
-use acpi_term::term::Term;
+use acpi_term::term::{FieldNames, Term};
 use std::alloc::Global;
 
 /// What the terms of a text are made with.
@@ -55,12 +55,17 @@ fn bank_field(context: &Context, depth: usize, node: &Node<'_>) -> Result<Sized,
     Ok(Sized {
         term: Term::BankField {
             width,
-            name,
-            bank,
-            value: Box::new(alloc, value.term)?,
             access,
             lock,
             update,
+            names: Box::new(
+                alloc,
+                FieldNames {
+                    name,
+                    selector: bank,
+                },
+            )?,
+            value: Box::new(alloc, value.term)?,
             entries,
         },
         size,
@@ -565,8 +570,8 @@ pub fn statements(
     'nodes: for node in nodes {
         let sized = term(context, depth, node)?;
         let in_block = matches!(node.word, b"External") && !node.stands_alone();
-        // The note on a block stands before its first statement.
-        if !in_block || node.length().is_some() {
+        // The notes on a block stand before its first statement.
+        if !in_block || node.length().is_some() || node.begins_block() {
             let block = std::mem::replace(&mut externals, Externals::new(alloc, node.length()));
             flush(alloc, block, &mut list)?;
         }

@@ -35,7 +35,7 @@ use acpi_term::mode::Mode;
 use acpi_term::name_string::{Arities, NameString};
 use acpi_term::op::Op;
 use acpi_term::read_error::ReadError;
-use acpi_term::term::{MAX_DEPTH, Term};
+use acpi_term::term::{FieldNames, MAX_DEPTH, Term};
 use std::alloc::Global;
 
 /// How terms are read.
@@ -453,15 +453,18 @@ fn banked<'a>(
         return Err(Cause::Flags);
     }
     let entries = entries(Language::Standard, alloc, rest)?;
+    let names = FieldNames {
+        name: start.name,
+        selector: start.bank,
+    };
     Ok((
         Term::BankField {
             width: start.width,
-            name: start.name,
-            bank: start.bank,
-            value,
             access: flags % 16,
             lock: flags / 16 % 2,
             update: flags / 32,
+            names: Box::new(alloc, names)?,
+            value,
             entries,
         },
         after,

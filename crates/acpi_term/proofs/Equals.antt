@@ -17,6 +17,8 @@ use Rattle.acpi_term.specs.contracts.read_error.ReadErrorPartialEq.TheImpl.{eq-v
 use Rattle.acpi_term.specs.declared.term.TermEntry.{TermEntry}
 use Rattle.acpi_term.specs.declared.term.TermEntry.TheVariants.{Named, Reserved, AccessAs, ExtendedAccessAs, Connection, ConnectionBuffer}
 use Rattle.acpi_term.specs.contracts.term.TermEntryPartialEq.TheImpl.{eq-value}
+use Rattle.acpi_term.specs.declared.term.FieldNames.{FieldNames}
+use Rattle.acpi_term.specs.contracts.term.FieldNamesPartialEq.TheImpl.{eq-value as eq-names}
 use Rattle.acpi_term.specs.declared.term.Term.{Term}
 use Rattle.acpi_term.specs.declared.term.Term.TheOpen.{Term-F}
 use Rattle.acpi_term.specs.declared.term.Term.TheFolds.{fold_out-Term, map-Term}
@@ -99,6 +101,9 @@ entries_same : (xs ys : List TermEntry) → map entry_view xs ≡ map entry_view
 entries_same [] [] e = refl
 entries_same (x ∷ xs) (y ∷ ys) e = let a : entry_view x ≡ entry_view y = cc in let b : map entry_view xs ≡ map entry_view ys = cc in both _ _ (entry_same x y a) (entries_same xs ys b)
 entries_same x y e = absurd cc
+
+names_same : (x y : FieldNames) → x.name ≡ y.name → x.selector ≡ y.selector → eq-names.it x y ≡ true
+names_same x y e f = both _ _ (bytes_same x.name y.name e) (bytes_same x.selector y.selector f)
 
 -- ---- terms, as far as a number of steps compares them
 
@@ -197,10 +202,10 @@ shape (Term-F.LeveledMethod a b c d e f) = 24
 shape (Term-F.Processor a b c d e f) = 25
 shape (Term-F.ThermalZone a b c) = 26
 shape (Term-F.RoomyPackage a b c) = 27
-shape (Term-F.IndexField a b c d e f g) = 28
+shape (Term-F.IndexField a b c d e f) = 28
 shape (Term-F.Fatal a b c) = 29
 shape (Term-F.MatchTest a b) = 30
-shape (Term-F.BankField a b c d e f g h) = 31
+shape (Term-F.BankField a b c d e f g) = 31
 shape (Term-F.Unread a b) = 32
 
 shape_is : (x : Term-F Term) → tag (seen x).0 ≡ shape x
@@ -233,10 +238,10 @@ shape_is (Term-F.LeveledMethod a b c d e f) = refl
 shape_is (Term-F.Processor a b c d e f) = refl
 shape_is (Term-F.ThermalZone a b c) = refl
 shape_is (Term-F.RoomyPackage a b c) = refl
-shape_is (Term-F.IndexField a b c d e f g) = refl
+shape_is (Term-F.IndexField a b c d e f) = refl
 shape_is (Term-F.Fatal a b c) = refl
 shape_is (Term-F.MatchTest a b) = refl
-shape_is (Term-F.BankField a b c d e f g h) = refl
+shape_is (Term-F.BankField a b c d e f g) = refl
 shape_is (Term-F.Unread a b) = refl
 
 differ : (a b : ℕ) → eqb a b ≡ false → a ≡ b → ⊥
@@ -255,17 +260,17 @@ layer n below (Term-F.Arg k) (Term-F.Arg k') s h w c = let e : k ≡ k' = cc in 
 layer n below (Term-F.Call name args) (Term-F.Call name' args') s h w c = let e : name ≡ name' = cc in both _ _ (bytes_same name name' e) (rows_same n below args args' c)
 layer n below (Term-F.Scope a name body) (Term-F.Scope b name' body') s h w c = let e : name ≡ name' = cc in both _ _ (nat_same a b w) (both _ _ (bytes_same name name' e) (rows_same n below body body' c))
 layer n below (Term-F.Device a name body) (Term-F.Device b name' body') s h w c = let e : name ≡ name' = cc in both _ _ (nat_same a b w) (both _ _ (bytes_same name name' e) (rows_same n below body body' c))
-layer n below (Term-F.Method a name args serialized body) (Term-F.Method b name' args' serialized' body') s h w c =
+layer n below (Term-F.Method a args serialized name body) (Term-F.Method b args' serialized' name' body') s h w c =
     let e : name ≡ name' = cc in let f : args ≡ args' = cc in let g : serialized ≡ serialized' = cc in
-    both _ _ (nat_same a b w) (both _ _ (bytes_same name name' e) (both _ _ (nat_same args args' f) (both _ _ (bool_same serialized serialized' g) (rows_same n below body body' c))))
-layer n below (Term-F.PowerResource a name level order body) (Term-F.PowerResource b name' level' order' body') s h w c =
+    both _ _ (nat_same a b w) (both _ _ (nat_same args args' f) (both _ _ (bool_same serialized serialized' g) (both _ _ (bytes_same name name' e) (rows_same n below body body' c))))
+layer n below (Term-F.PowerResource a level order name body) (Term-F.PowerResource b level' order' name' body') s h w c =
     let e : name ≡ name' = cc in let f : level ≡ level' = cc in let g : order ≡ order' = cc in
-    both _ _ (nat_same a b w) (both _ _ (bytes_same name name' e) (both _ _ (nat_same level level' f) (both _ _ (nat_same order order' g) (rows_same n below body body' c))))
-layer n below (Term-F.Field a name access lock update entries) (Term-F.Field b name' access' lock' update' entries') s h w c =
+    both _ _ (nat_same a b w) (both _ _ (nat_same level level' f) (both _ _ (nat_same order order' g) (both _ _ (bytes_same name name' e) (rows_same n below body body' c))))
+layer n below (Term-F.Field a access lock update name entries) (Term-F.Field b access' lock' update' name' entries') s h w c =
     let e : name ≡ name' = cc in let f : access ≡ access' = cc in let g : lock ≡ lock' = cc in let k : update ≡ update' = cc in
     let l : map entry_view entries.items ≡ map entry_view entries'.items = cc in
     both _ _ (nat_same a b w)
-    (both _ _ (bytes_same name name' e) (both _ _ (nat_same access access' f) (both _ _ (nat_same lock lock' g) (both _ _ (nat_same update update' k) (entries_same entries.items entries'.items l)))))
+    (both _ _ (nat_same access access' f) (both _ _ (nat_same lock lock' g) (both _ _ (nat_same update update' k) (both _ _ (bytes_same name name' e) (entries_same entries.items entries'.items l)))))
 layer n below (Term-F.OpRegion name space offset size) (Term-F.OpRegion name' space' offset' size') s h w c =
     let e : name ≡ name' = cc in let f : space ≡ space' = cc in
     let z : views (size.value ∷ []) ≡ views (size'.value ∷ []) = other_views offset.value offset'.value (size.value ∷ []) (size'.value ∷ []) c in
@@ -293,29 +298,32 @@ layer n below (Term-F.Else a body) (Term-F.Else b body') s h w c = both _ _ (nat
 layer n below (Term-F.Op o operands) (Term-F.Op o' operands') s h w c = let e : o ≡ o' = cc in both _ _ (op_same o o' e) (rows_same n below operands operands' c)
 layer n below (Term-F.External name kind args) (Term-F.External name' kind' args') s h w c =
     let e : name ≡ name' = cc in let f : kind ≡ kind' = cc in let g : args ≡ args' = cc in both _ _ (bytes_same name name' e) (both _ _ (nat_same kind kind' f) (nat_same args args' g))
-layer n below (Term-F.LeveledMethod a name args serialized level body) (Term-F.LeveledMethod b name' args' serialized' level' body') s h w c =
+layer n below (Term-F.LeveledMethod a args serialized level name body) (Term-F.LeveledMethod b args' serialized' level' name' body') s h w c =
     let e : name ≡ name' = cc in let f : args ≡ args' = cc in let g : serialized ≡ serialized' = cc in let k : level ≡ level' = cc in
-    both _ _ (nat_same a b w) (both _ _ (bytes_same name name' e) (both _ _ (nat_same args args' f) (both _ _ (bool_same serialized serialized' g) (both _ _ (nat_same level level' k) (rows_same n below body body' c)))))
-layer n below (Term-F.Processor a name id address size body) (Term-F.Processor b name' id' address' size' body') s h w c =
+    both _ _ (nat_same a b w) (both _ _ (nat_same args args' f) (both _ _ (bool_same serialized serialized' g) (both _ _ (nat_same level level' k) (both _ _ (bytes_same name name' e) (rows_same n below body body' c)))))
+layer n below (Term-F.Processor a id size address name body) (Term-F.Processor b id' size' address' name' body') s h w c =
     let e : name ≡ name' = cc in let f : id ≡ id' = cc in let g : address ≡ address' = cc in let k : size ≡ size' = cc in
-    both _ _ (nat_same a b w) (both _ _ (bytes_same name name' e) (both _ _ (nat_same id id' f) (both _ _ (nat_same address address' g) (both _ _ (nat_same size size' k) (rows_same n below body body' c)))))
+    both _ _ (nat_same a b w) (both _ _ (nat_same id id' f) (both _ _ (nat_same size size' k) (both _ _ (nat_same address address' g) (both _ _ (bytes_same name name' e) (rows_same n below body body' c)))))
 layer n below (Term-F.ThermalZone a name body) (Term-F.ThermalZone b name' body') s h w c = let e : name ≡ name' = cc in both _ _ (nat_same a b w) (both _ _ (bytes_same name name' e) (rows_same n below body body' c))
 layer n below (Term-F.RoomyPackage a room elements) (Term-F.RoomyPackage b room' elements') s h w c = let e : room ≡ room' = cc in both _ _ (nat_same a b w) (both _ _ (nat_same room room' e) (rows_same n below elements elements' c))
-layer n below (Term-F.IndexField a index name access lock update entries) (Term-F.IndexField b index' name' access' lock' update' entries') s h w c =
-    let d : index ≡ index' = cc in let e : name ≡ name' = cc in let f : access ≡ access' = cc in let g : lock ≡ lock' = cc in let k : update ≡ update' = cc in
+layer n below (Term-F.IndexField a access lock update names entries) (Term-F.IndexField b access' lock' update' names' entries') s h w c =
+    let d : names.value.selector ≡ names'.value.selector = cc in let e : names.value.name ≡ names'.value.name = cc in
+    let f : access ≡ access' = cc in let g : lock ≡ lock' = cc in let k : update ≡ update' = cc in
     let l : map entry_view entries.items ≡ map entry_view entries'.items = cc in
-    both _ _ (nat_same a b w) (both _ _ (bytes_same index index' d)
-    (both _ _ (bytes_same name name' e) (both _ _ (nat_same access access' f) (both _ _ (nat_same lock lock' g) (both _ _ (nat_same update update' k) (entries_same entries.items entries'.items l))))))
+    both _ _ (nat_same a b w) (both _ _ (nat_same access access' f) (both _ _ (nat_same lock lock' g) (both _ _ (nat_same update update' k)
+    (both _ _ (names_same names.value names'.value e d) (entries_same entries.items entries'.items l)))))
 layer n below (Term-F.Fatal kind code argument) (Term-F.Fatal kind' code' argument') s h w c =
     let e : kind ≡ kind' = cc in let f : code ≡ code' = cc in
     both _ _ (nat_same kind kind' e) (both _ _ (nat_same code code' f) (below argument.value argument'.value (first_view argument.value argument'.value [] [] c)))
 layer n below (Term-F.MatchTest code operand) (Term-F.MatchTest code' operand') s h w c =
     let e : code ≡ code' = cc in both _ _ (nat_same code code' e) (below operand.value operand'.value (first_view operand.value operand'.value [] [] c))
-layer n below (Term-F.BankField a name bank value access lock update entries) (Term-F.BankField b name' bank' value' access' lock' update' entries') s h w c =
-    let d : name ≡ name' = cc in let e : bank ≡ bank' = cc in let f : access ≡ access' = cc in let g : lock ≡ lock' = cc in let k : update ≡ update' = cc in
+layer n below (Term-F.BankField a access lock update names value entries) (Term-F.BankField b access' lock' update' names' value' entries') s h w c =
+    let d : names.value.name ≡ names'.value.name = cc in let e : names.value.selector ≡ names'.value.selector = cc in
+    let f : access ≡ access' = cc in let g : lock ≡ lock' = cc in let k : update ≡ update' = cc in
     let l : map entry_view entries.items ≡ map entry_view entries'.items = cc in
-    both _ _ (nat_same a b w) (both _ _ (bytes_same name name' d)
-    (both _ _ (bytes_same bank bank' e) (both _ _ (below value.value value'.value (first_view value.value value'.value [] [] c)) (both _ _ (nat_same access access' f) (both _ _ (nat_same lock lock' g) (both _ _ (nat_same update update' k) (entries_same entries.items entries'.items l)))))))
+    both _ _ (nat_same a b w) (both _ _ (nat_same access access' f) (both _ _ (nat_same lock lock' g) (both _ _ (nat_same update update' k)
+    (both _ _ (names_same names.value names'.value d e) (both _ _ (below value.value value'.value (first_view value.value value'.value [] [] c))
+    (entries_same entries.items entries'.items l))))))
 layer n below (Term-F.Unread error bytes) (Term-F.Unread error' bytes') s h w c =
     let e : error ≡ error' = cc in let f : bytes.items ≡ bytes'.items = cc in both _ _ (error_same error error' e) (bytes_same bytes.items bytes'.items f)
 layer n below x y s h w c = absurd (differ (shape x) (shape y) refl s)

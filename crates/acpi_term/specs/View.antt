@@ -42,9 +42,9 @@ view_step (Term-F.Arg n) = (arg n, 0, end)
 view_step (Term-F.Call name args) = (call name, 0, listed args.items)
 view_step (Term-F.Scope width name body) = (def_scope name, width, listed body.items)
 view_step (Term-F.Device width name body) = (def_device name, width, listed body.items)
-view_step (Term-F.Method width name args serialized body) = (def_method name args serialized, width, listed body.items)
-view_step (Term-F.PowerResource width name level order body) = (def_power_res name level order, width, listed body.items)
-view_step (Term-F.Field width name access lock update entries) =
+view_step (Term-F.Method width args serialized name body) = (def_method name args serialized, width, listed body.items)
+view_step (Term-F.PowerResource width level order name body) = (def_power_res name level order, width, listed body.items)
+view_step (Term-F.Field width access lock update name entries) =
     (def_field name access lock update (map entry_view entries.items), width, end)
 view_step (Term-F.OpRegion name space offset size) = (def_op_region name space, 0, listed (offset.value ∷ size.value ∷ []))
 view_step (Term-F.Name name value) = (def_name name, 0, listed (value.value ∷ []))
@@ -59,15 +59,18 @@ view_step (Term-F.While width predicate body) = (def_while, width, listed (predi
 view_step (Term-F.Else width body) = (def_else, width, listed body.items)
 view_step (Term-F.Op o operands) = (op o, 0, listed operands.items)
 view_step (Term-F.External name kind args) = (def_external name kind args, 0, end)
-view_step (Term-F.LeveledMethod width name args serialized level body) =
+view_step (Term-F.LeveledMethod width args serialized level name body) =
     (def_leveled_method name args serialized level, width, listed body.items)
-view_step (Term-F.Processor width name id address size body) = (def_processor name id address size, width, listed body.items)
+view_step (Term-F.Processor width id size address name body) = (def_processor name id address size, width, listed body.items)
 view_step (Term-F.ThermalZone width name body) = (def_thermal_zone name, width, listed body.items)
 view_step (Term-F.RoomyPackage width room elements) = (def_roomy_package room, width, listed elements.items)
-view_step (Term-F.IndexField width index name access lock update entries) =
-    (def_index_field index name access lock update (map entry_view entries.items), width, end)
-view_step (Term-F.BankField width name bank value access lock update entries) =
-    (def_bank_field name bank access lock update (map entry_view entries.items), width, listed (value.value ∷ []))
+view_step (Term-F.IndexField width access lock update names entries) =
+    (def_index_field names.value.selector names.value.name access lock update (map entry_view entries.items), width, end)
+view_step (Term-F.BankField width access lock update names value entries) = (
+  def_bank_field names.value.name names.value.selector access lock update (map entry_view entries.items),
+  width,
+  listed (value.value ∷ []),
+)
 view_step (Term-F.Fatal kind code argument) = (def_fatal kind code, 0, listed (argument.value ∷ []))
 view_step (Term-F.MatchTest code operand) = (match_test code, 0, listed (operand.value ∷ []))
 view_step (Term-F.Unread error bytes) = (unread error bytes.items, 0, end)

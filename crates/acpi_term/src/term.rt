@@ -30,7 +30,17 @@ pub enum TermEntry {
     },
 }
 
+/// The two names of an IndexField or a BankField (ACPI 6.5, 20.2.5.2).
+#[derive(Debug, Drop, PartialEq)]
+pub struct FieldNames {
+    /// The register that has the data, or the region.
+    pub name: NameString,
+    /// The register to which the index or the bank is written.
+    pub selector: NameString,
+}
+
 /// A term (ACPI 6.5, 20.2.3 and 20.2.5). The width of a term with a frame is the width of its PkgLength, from 1 to 4 bytes.
+/// A term takes 48 bytes: its numbers come before its name, and what is larger is in a box.
 #[derive(Debug, Drop, PartialEq)]
 pub enum Term {
     /// The width is 0 for the bytes 00 and 01; otherwise it is the number of bytes after the prefix.
@@ -59,24 +69,24 @@ pub enum Term {
     },
     Method {
         width: u8,
-        name: NameString,
         args: u8,
         serialized: bool,
+        name: NameString,
         body: Vec<Term>,
     },
     PowerResource {
         width: u8,
-        name: NameString,
         level: u8,
         order: u16,
+        name: NameString,
         body: Vec<Term>,
     },
     Field {
         width: u8,
-        name: NameString,
         access: u8,
         lock: u8,
         update: u8,
+        name: NameString,
         entries: Vec<TermEntry>,
     },
     OpRegion {
@@ -143,19 +153,19 @@ pub enum Term {
     /// A method with a synchronization level, from 1 to 15.
     LeveledMethod {
         width: u8,
-        name: NameString,
         args: u8,
         serialized: bool,
         level: u8,
+        name: NameString,
         body: Vec<Term>,
     },
     /// The address and the length are those of the processor's registers.
     Processor {
         width: u8,
-        name: NameString,
         id: u8,
-        address: u32,
         size: u8,
+        address: u32,
+        name: NameString,
         body: Vec<Term>,
     },
     ThermalZone {
@@ -169,25 +179,23 @@ pub enum Term {
         room: u8,
         elements: Vec<Term>,
     },
-    /// A field of the register `name`, whose index is written to the register `index`.
+    /// A field of a register. What is written to the selector is the index.
     IndexField {
         width: u8,
-        index: NameString,
-        name: NameString,
         access: u8,
         lock: u8,
         update: u8,
+        names: Box<FieldNames>,
         entries: Vec<TermEntry>,
     },
-    /// A field of the region `name`, of the bank that the `value` in the field `bank` selects.
+    /// A field of a region. The `value` in the selector is the bank.
     BankField {
         width: u8,
-        name: NameString,
-        bank: NameString,
-        value: Box<Term>,
         access: u8,
         lock: u8,
         update: u8,
+        names: Box<FieldNames>,
+        value: Box<Term>,
         entries: Vec<TermEntry>,
     },
     /// The type, the code and the argument are what the firmware's maker chose.

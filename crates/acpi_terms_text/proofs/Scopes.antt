@@ -1,17 +1,15 @@
 -- The numbers of arguments in scopes.
-use Rattle.std.proofs.Common.{◌≡◌, ℕ, zero, suc, ◌+◌, ◌-◌, ◌<◌, ◌≤◌, ◌==◌, not, ◌&&◌, ◌||◌, Bool, true, false, List, [], ◌∷◌, ◌++◌, length, map, get_or, drop, refl, sym, ap, ◌∙◌, arith}
-use Rattle.std.specs.Iterator.{Yields}
-use Rattle.std.specs.Vec.Iter.{into_iter_items, into_iter_steps}
-use Rattle.std.specs.declared.vec.IntoIter.{IntoIter}
+use Rattle.std.proofs.Common.{◌≡◌, ℕ, zero, suc, ◌+◌, ◌-◌, ◌/◌, ◌<◌, ◌≤◌, ◌==◌, not, ◌&&◌, ◌||◌, Bool, true, false, List, [], ◌∷◌, ◌++◌, length, map, get_or, drop, subst, refl, sym, ap, ◌∙◌, arith}
+use Rattle.std.proofs.Math.ListN.{set}
 use Rattle.acpi_read.proofs.Texts.{dropped}
-use Rattle.acpi_term.proofs.Depths.{first_shallow, others_shallow}
-use Rattle.acpi_term.specs.Tree.{Head, Terms, depth}
+use Rattle.acpi_term.proofs.Depths.{others_shallow, element_shallow}
+use Rattle.acpi_term.specs.Tree.{Head, Terms, end, term, depth}
 use Rattle.acpi_term.specs.View.{view, views, single, IsApart}
 use Rattle.acpi_term.specs.declared.term.Term.{Term}
 use Rattle.acpi_term.specs.Arity.{arity, with_all}
 use Rattle.acpi_terms_text.specs.declared.objects.Object.{Object}
-use Rattle.acpi_terms_text.specs.Objects.{Callee, callee_by}
-use Rattle.acpi_terms_text.specs.Scoped.{outer, here, made_in, near, may_name, mention, differ, AreScoped}
+use Rattle.acpi_terms_text.specs.Objects.{inside, Callee, callee_by}
+use Rattle.acpi_terms_text.specs.Scoped.{outer, here, made_in, near, may_name, mention, differ, numbers_in, AreIfRead, Body, space, code, other, body, OfBody, IsBody, AreScoped}
 use Rattle.acpi_terms_text.proofs.Walks.{both_added}
 
 abbrev Counts : Type 0
@@ -109,24 +107,75 @@ module _ (all : List Callee) where
 
 -- ---- terms in scopes
 
--- what the iterator of a vector has given is a front of its items
-taken_front : {X A : Type 0} (s : IntoIter X A) (xs : List X) (t : IntoIter X A) → Yields into_iter_steps s xs t → into_iter_items s ≡ xs ++ into_iter_items t
-taken_front s [] t y = ap into_iter_items y
-taken_front s (x ∷ xs) t y = y.1.0 ∙ ap (λ ys. x ∷ ys) (taken_front y.0 xs t y.2)
-
--- a term that the iterator of a vector gives is no deeper than the terms of the vector
-pub given_shallow : {A : Type 0} (s : IntoIter Term A) (xs : List Term) (x : Term) (t : IntoIter Term A) (ts : List Term)
-    → into_iter_items s ≡ ts → Yields into_iter_steps s (xs ++ x ∷ []) t → depth (single (view x)) ≤ depth (views ts)
-given_shallow s xs x t ts all y =
-    let front : ts ≡ (xs ++ x ∷ []) ++ into_iter_items t = sym all ∙ taken_front s (xs ++ x ∷ []) t y in
-    let one = others_shallow xs (x ∷ []) in
-    let both = first_shallow (xs ++ x ∷ []) (into_iter_items t) in
-    omega (arith, one, both, ap (λ (l : List Term). depth (views l)) front)
-
 module _ (stated : Counts) (all : List Callee) (own : Counts) (scope : List ℕ) where
-  pub scoped_on : (xs ys : List Term) (x y : Term) → AreScoped stated all own scope (views xs) (views ys)
-      → AreScoped stated all own scope (single (view x)) (single (view y)) → AreScoped stated all own scope (views (xs ++ x ∷ [])) (views (ys ++ y ∷ []))
-  scoped_on [] [] x y before one = one
-  scoped_on [] (b ∷ ys) x y before one = absurd before
-  scoped_on (a ∷ xs) [] x y before one = absurd before
-  scoped_on (a ∷ xs) (b ∷ ys) x y before one = (before.0, before.1, before.2, scoped_on xs ys x y before.3 one)
+  -- so many terms are in a scope, and those after them are as they were
+  abbrev pub AreDone : ℕ → List Term → List Term → Type 0
+  AreDone zero old now = now ≡ old
+  AreDone (suc i) [] [] = Unit {0}
+  AreDone (suc i) [] (y ∷ now) = ⊥
+  AreDone (suc i) (x ∷ old) [] = ⊥
+  AreDone (suc i) (x ∷ old) (y ∷ now) = AreScoped stated all own scope (single (view x)) (single (view y)) × AreDone i old now
+
+  done_next : (i : ℕ) (old now : List Term) (x y : Term) → i < length now → x ≡ get_or now i x → AreDone i old now
+      → AreScoped stated all own scope (single (view x)) (single (view y)) → AreDone (suc i) old (set now i y)
+  done_next i old [] x y inside is done one = absurd (omega (arith, inside))
+  done_next zero old (z ∷ now) x y inside is done one =
+      let this : AreScoped stated all own scope (single (view z)) (single (view y)) =
+      subst (λ (t : Term). AreScoped stated all own scope (single (view t)) (single (view y))) is one
+      in
+      subst (λ (l : List Term). AreDone 1 l (y ∷ now)) done (this, refl)
+  done_next (suc i) [] (z ∷ now) x y inside is done one = absurd done
+  done_next (suc i) (a ∷ old) (z ∷ now) x y inside is done one = (done.0, done_next i old now x y (omega (arith, inside)) is done.1 one)
+
+  -- one more
+  pub done_on : (i : ℕ) (old now : List Term) (x y : Term) → i < length now → x ≡ get_or now i x → AreDone i old now
+      → AreScoped stated all own scope (single (view x)) (single (view y)) → AreDone (i + 1) old (set now i y)
+  done_on i old now x y inside is done one = let after : suc i ≡ i + 1 = omega arith in subst (λ (k : ℕ). AreDone k old (set now i y)) after (done_next i old now x y inside is done one)
+
+  -- all of them
+  pub done_all : (i : ℕ) (old now : List Term) → length now ≤ i → AreDone i old now → AreScoped stated all own scope (views old) (views now)
+  done_all zero old [] past done = subst (λ (l : List Term). AreScoped stated all own scope (views l) end) done tt
+  done_all zero old (z ∷ now) past done = absurd (omega (arith, past))
+  done_all (suc i) [] [] past done = tt
+  done_all (suc i) [] (z ∷ now) past done = absurd done
+  done_all (suc i) (a ∷ old) [] past done = absurd done
+  done_all (suc i) (a ∷ old) (z ∷ now) past done = (done.0.0, done.0.1, done.0.2, done_all i old now (omega (arith, past)) done.1)
+
+  -- the next term is one of those that there were
+  pub done_shallow : (i : ℕ) (old now : List Term) (x : Term) → i < length now → x ≡ get_or now i x → AreDone i old now
+      → depth (single (view x)) ≤ depth (views old)
+  done_shallow zero old now x inside is done =
+      subst (λ (l : List Term). depth (single (view x)) ≤ depth (views l)) done (element_shallow now 0 x inside is)
+  done_shallow (suc i) old [] x inside is done = absurd (omega (arith, inside))
+  done_shallow (suc i) [] (z ∷ now) x inside is done = absurd done
+  done_shallow (suc i) (a ∷ old) (z ∷ now) x inside is done =
+      let deeper = done_shallow i old now x (omega (arith, inside)) is done.1 in
+      let others = others_shallow (a ∷ []) old in
+      omega (arith, deeper, others)
+
+-- ---- terms that stay
+
+near_none : (n : ℕ) (scope : List ℕ) → near n scope [] ≡ []
+near_none zero scope = refl
+near_none (suc n) scope = near_none n (outer scope)
+
+of_body : {A B C : Type 0} (b : Body) → A → B → C → OfBody b A B C
+of_body space a b c = a
+of_body code a b c = b
+of_body other a b c = c
+
+module _ (stated own : Counts) where
+  same_body : (scope : List ℕ) (ts : Terms) → IsBody stated [] own scope ts ts
+  same_body scope ts =
+      subst (λ (l : Counts). AreIfRead (differ own ts l) (numbers_in stated [] scope) ts ts) (sym (near_none (length scope / 5) scope)) refl
+
+  same_scoped : (scope : List ℕ) (ts : Terms) → AreScoped stated [] own scope ts ts
+  same_scoped scope end = tt
+  same_scoped scope (term h w c others) =
+      (refl, refl, of_body (body h) (same_scoped (inside scope h) c) (same_body (inside scope h) c) refl, same_scoped scope others)
+
+  -- without objects that calls may name
+  pub scoped_kept : (scope : List ℕ) (all : List Object) (found : List Callee) (ts : Terms) → length all ≡ 0 → map callee_by all ≡ found
+      → AreScoped stated found own scope ts ts
+  scoped_kept scope [] found ts none is = rw (sym is) (same_scoped scope ts)
+  scoped_kept scope (m ∷ all) found ts none is = absurd (omega (arith, none))

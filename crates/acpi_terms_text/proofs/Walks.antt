@@ -1,13 +1,12 @@
 -- Walks over terms and their children.
-use Rattle.std.proofs.Common.{◌≡◌, ℕ, suc, ◌+◌, ◌-◌, ◌<◌, ◌≤◌, ◌==◌, if◌then◌else◌, Bool, List, [], ◌∷◌, ◌++◌, length, map, get_or, drop, refl, sym, ap, ◌∙◌, append_assoc, arith}
+use Rattle.std.proofs.Common.{◌≡◌, ℕ, suc, ◌+◌, ◌-◌, ◌<◌, ◌≤◌, Bool, List, [], ◌∷◌, ◌++◌, length, get_or, drop, refl, sym, ap, ◌∙◌, append_assoc, arith}
 use Rattle.std.proofs.lemmas.List.{append-nil}
 use Rattle.acpi_term.specs.declared.term.Term.{Term}
 use Rattle.acpi_term.specs.Arity.{with_new, with_all}
 use Rattle.acpi_term.specs.Tree.{Head}
 use Rattle.acpi_term.specs.View.{view, views, single, IsApart}
 use Rattle.acpi_read.proofs.Texts.{dropped}
-use Rattle.acpi_terms_text.specs.declared.objects.Object.{Object}
-use Rattle.acpi_terms_text.specs.Objects.{inside, Callee, callee_by, own_objects, numbers, numbers_of, numbers_from, objects}
+use Rattle.acpi_terms_text.specs.Objects.{inside, Callee, own_objects, numbers_of, numbers_from, objects}
 use Rattle.acpi_terms_text.specs.Comment.{has_ids, has_size, note}
 use Rattle.acpi_terms_text.specs.Woven.{entry_notes, notes}
 
@@ -20,14 +19,14 @@ pub both_added : (all a b : Counts) → with_all all (a ++ b) ≡ with_all (with
 both_added all [] b = refl
 both_added all (x ∷ a) b = both_added (with_new all x) a b
 
--- of each of a list of objects
-pub counts_on : (each : List Object → Counts) (os : List Object) (i : ℕ) (o : Object) (one now new whole : Counts) → i < length os
+-- of each of a list
+pub counts_on : {X : Type 0} (each : List X → Counts) (os : List X) (i : ℕ) (o : X) (one now new whole : Counts) → i < length os
     → o ≡ get_or os i o → each (o ∷ drop (i + 1) os) ≡ one ++ each (drop (i + 1) os) → new ≡ with_all now one
     → with_all now (each (drop i os)) ≡ whole → with_all new (each (drop (i + 1) os)) ≡ whole
-counts_on each os i o one now new whole inside is step added before =
+counts_on {X} each os i o one now new whole inside is step added before =
     let rest = each (drop (i + 1) os) in
     ap (λ (l : Counts). with_all l rest) added ∙ sym (both_added now one rest) ∙ ap (with_all now) (sym step)
-    ∙ ap (λ (l : List Object). with_all now (each l)) (sym (dropped os i o inside is)) ∙ before
+    ∙ ap (λ (l : List X). with_all now (each l)) (sym (dropped os i o inside is)) ∙ before
 
 -- of the numbers from k to 7
 numbers_more : (n k : ℕ) (all : List Callee) → k < n → numbers_from (n - k) k all ≡ numbers_of k all ++ numbers_from (n - (k + 1)) (k + 1) all

@@ -1,5 +1,5 @@
 -- The objects of a definition block, and how many arguments the methods of them take by the names of calls.
-use Rattle.std.specs.Prelude.{◌≡◌, ℕ, zero, suc, ◌==◌, ◌-◌, nat_le, ◌&&◌, ◌||◌, Bool, if◌then◌else◌}
+use Rattle.std.specs.Prelude.{◌≡◌, ℕ, zero, suc, ◌==◌, ◌-◌, nat_le, ◌&&◌, ◌||◌, not, Bool, true, if◌then◌else◌}
 use Rattle.std.specs.Prelude.{List, [], ◌∷◌, ◌++◌, length, drop, Option, Some, None, codes, string_bytes}
 use Rattle.acpi_term.specs.Arity.{arity, with_all}
 use Rattle.acpi_term.specs.declared.language.Language.TheVariants.{Standard}
@@ -7,6 +7,8 @@ use Rattle.acpi_term.specs.Language.{grammar_of}
 use Rattle.acpi_term.specs.Name.{is_segment}
 use Rattle.acpi_term.specs.PathText.{is_rooted, unrooted, path_spelling, is_name_text}
 use Rattle.acpi_terms_text.specs.declared.objects.Object.{Object}
+use Rattle.acpi_terms_text.specs.declared.objects.Kept.{Kept}
+use Rattle.acpi_terms_text.specs.declared.objects.Kept.TheVariants.{All, Among}
 use Rattle.acpi_term.specs.Tree.{Entry, named, Head, call, op, def_scope, def_device, def_method, def_power_res, def_field}
 use Rattle.acpi_term.specs.Tree.{def_op_region, def_name, def_mutex, def_external, def_leveled_method, def_processor}
 use Rattle.acpi_term.specs.Tree.{def_thermal_zone, def_index_field, def_bank_field, Terms, end, term}
@@ -59,22 +61,22 @@ all_stated n (text ∷ texts) = stated n text ++ all_stated n texts
 abbrev pub is_method : ℕ → ℕ → Bool
 is_method kind args = kind == 8 && nat_le args 7
 
--- An object that a call may name: the scope of the term that makes it, its name there, and the number of its arguments. Only methods
--- have arguments.
+-- An object that a call may name: its path, its name in the term that makes it, and the number of its arguments. Only methods have
+-- arguments.
 pub record Callee : Type 0 where
-  pub scope : List ℕ
+  pub path : List ℕ
   pub name : List ℕ
   pub args : ℕ
 
 abbrev pub callee : List ℕ → List ℕ → ℕ → Callee
-callee s n k = record { scope = s; name = n; args = k }
+callee p n k = record { path = p; name = n; args = k }
 
 abbrev pub callee_by : Object → Callee
-callee_by o = callee (string_bytes o.scope) o.name o.args
+callee_by o = callee (string_bytes o.path) o.name o.args
 
--- one object
+-- one object, by its name in a scope
 abbrev pub makes : List ℕ → List ℕ → ℕ → List Callee
-makes scope name args = callee scope name args ∷ []
+makes scope name args = callee (placed scope (name_text name)) name args ∷ []
 
 -- an object without arguments, if there is a name for it
 abbrev pub if_named : List ℕ → Option (List ℕ) → List Callee
@@ -181,11 +183,42 @@ all_among among (m ∷ all) = if_among among m ++ all_among among all
 abbrev pub callees : List Callee → List Callee
 callees all = all_among (with_all [] (segments all)) all
 
+-- ---- the same without a list of all objects
+
+-- the last segment of the name of a method with arguments
+abbrev pub segment_of : List ℕ → ℕ → List (List ℕ × ℕ)
+segment_of name args = if args == 0 then [] else counted args (as_segment (segment name))
+
+-- that of the method that a head makes, or declares as external
+abbrev pub own_segments : Head → List (List ℕ × ℕ)
+own_segments (def_method name args serialized) = segment_of name args
+own_segments (def_leveled_method name args serialized level) = segment_of name args
+own_segments (def_external name kind args) = if is_method kind args then segment_of name args else []
+own_segments _ = []
+
+-- those of all terms: the segments of their objects (`segments_made`)
+abbrev pub segments_in : Terms → List (List ℕ × ℕ)
+segments_in end = []
+segments_in (term h w children others) = own_segments h ++ (segments_in children ++ segments_in others)
+
+-- whether an object of this name is kept
+abbrev pub keeps : Kept → List ℕ → Bool
+keeps All name = true
+keeps (Among among) name = not (arity among.now (segment name) == 0)
+
+abbrev pub if_kept : Kept → Callee → List Callee
+if_kept kept m = if keeps kept m.name then m ∷ [] else []
+
+-- the objects that are kept: all of them, or those of `all_among` (`kept_is`)
+abbrev pub all_kept : Kept → List Callee → List Callee
+all_kept kept [] = []
+all_kept kept (m ∷ all) = if_kept kept m ++ all_kept kept all
+
 -- ---- numbers of arguments
 
 -- the number of arguments of an object, for the names by which its path is called
 abbrev pub numbers : Callee → List (List ℕ × ℕ)
-numbers m = all_stated m.args (calls (placed m.scope (name_text m.name)))
+numbers m = all_stated m.args (calls m.path)
 
 -- the same of the objects with this number of arguments
 abbrev pub numbers_of : ℕ → List Callee → List (List ℕ × ℕ)

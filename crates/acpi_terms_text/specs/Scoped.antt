@@ -9,11 +9,11 @@ use Rattle.acpi_term.specs.Language.{grammar_of}
 use Rattle.acpi_term.specs.Name.{without_parents}
 use Rattle.acpi_term.specs.Spelling.{spelling}
 use Rattle.acpi_term.specs.Tree.{Head, call, def_scope, def_device, def_method, def_power_res, def_leveled_method}
-use Rattle.acpi_term.specs.Tree.{def_processor, def_thermal_zone, unread, Terms, end, term}
+use Rattle.acpi_term.specs.Tree.{def_processor, def_thermal_zone, def_if, def_else, def_while, unread, Terms, end, term}
 use Rattle.acpi_term.specs.declared.language.Language.TheVariants.{Standard}
 use Rattle.acpi_term.specs.declared.read_error.ReadError.{ReadError}
 use Rattle.acpi_term.specs.declared.read_error.ReadError.TheVariants.{Memory}
-use Rattle.acpi_terms_text.specs.Objects.{inside, Callee, called, all_callees, predefined}
+use Rattle.acpi_terms_text.specs.Objects.{inside, as_segment, segment, counted, Callee, called, all_callees, predefined}
 
 -- ---- the objects that are near to a scope
 
@@ -21,9 +21,13 @@ use Rattle.acpi_terms_text.specs.Objects.{inside, Callee, called, all_callees, p
 abbrev pub outer : List ℕ → List ℕ
 outer scope = take (length scope - 5) scope
 
--- an object by its name in this scope, if a term of the scope makes it
+-- the scope in which the object of a path is: without the last segment, which has four characters
+abbrev pub around : List ℕ → List ℕ
+around path = take (length path - 4) path
+
+-- an object by its last segment, if it is in this scope
 abbrev pub here : List ℕ → Callee → List (List ℕ × ℕ)
-here scope m = if bytes_eq m.scope scope then (m.name, m.args) ∷ [] else []
+here scope m = if bytes_eq (around m.path) scope then counted m.args (as_segment (segment m.name)) else []
 
 abbrev pub made_in : List ℕ → List Callee → List (List ℕ × ℕ)
 made_in scope [] = []
@@ -80,7 +84,7 @@ AreIfRead true numbers old new = AreReadAgain numbers old new ⊎ AreKept number
 
 -- where the names of a head's children are looked for
 pub data Body : Type 0 where
-  -- in the scope that the head makes, with no call but in methods
+  -- in the scope that the head makes, or in the one around it; only the methods there are read again
   space : Body
   -- in that scope
   code : Body
@@ -93,6 +97,9 @@ body (def_device name) = space
 body (def_power_res name level order) = space
 body (def_processor name id address size) = space
 body (def_thermal_zone name) = space
+body def_if = space
+body def_else = space
+body def_while = space
 body (def_method name args serialized) = code
 body (def_leveled_method name args serialized level) = code
 body _ = other

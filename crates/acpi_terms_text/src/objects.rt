@@ -2,16 +2,17 @@
 
 ghost use Rattle.std.specs.Prelude.{◌≡◌, ◌==◌, ◌++◌, OnOk, IfOk, IfErr, string_bytes, [], ◌∷◌, map, unwrap_or, if◌then◌else◌};
 ghost use Rattle.std.specs.Option.{option_map};
-ghost use Rattle.acpi_term.specs.Arity.{arity, with_all};
+ghost use Rattle.acpi_term.specs.Arity.{arity, with_all, with_new};
 ghost use Rattle.acpi_term.specs.PathText.{is_name_text};
 ghost use Rattle.acpi_term.specs.View.{entry_view, head_of, view, views, single};
 ghost use Rattle.acpi_read.specs.Lines.{name_text};
 ghost use Rattle.acpi_term.specs.declared.language.Language.TheVariants.{Standard};
 ghost use Rattle.acpi_term.specs.Language.{grammar_of};
 ghost use Rattle.acpi_terms_text.specs.Objects.{placed, opened, inside, after_dots, calls, stated, all_stated};
-ghost use Rattle.acpi_terms_text.specs.Objects.{is_method, callee_by, makes, as_segment, own_unit, own_units, own_external};
+ghost use Rattle.acpi_terms_text.specs.Objects.{is_method, callee, callee_by, makes, as_segment, own_unit, own_units, own_external};
 ghost use Rattle.acpi_terms_text.specs.Objects.{made_by, name_of, name_at, own_operand, own_objects, objects};
-ghost use Rattle.acpi_terms_text.specs.Objects.{segment, own_segment, segments, if_among, all_among, callees, all_callees};
+ghost use Rattle.acpi_terms_text.specs.Objects.{segment, segment_of, segments, segments_in, own_segments, all_among, all_callees};
+ghost use Rattle.acpi_terms_text.specs.Objects.{keeps, all_kept};
 ghost use Rattle.acpi_terms_text.specs.Objects.{numbers, numbers_of, called, predefined, own_numbers};
 ghost use Rattle.acpi_terms_text.specs.Objects.{AreOwn, AddObjectsIn};
 
@@ -129,33 +130,77 @@ fn is_method(kind: u8, args: u8) -> bool
 
 // ---- the objects of terms
 
-/// An object that calls may name: the scope of the term that makes it, its name there, and the number of its arguments. Only methods
-/// have arguments. The scope is a path from the root, without the root, with a dot after each segment.
+/// An object that calls may name: its path from the root, without the root, its name in the term that makes it, and the number of
+/// its arguments. Only methods have arguments.
 #[derive(Debug, Drop)]
 pub struct Object {
-    pub(crate) scope: String,
+    pub(crate) path: String,
     pub(crate) name: NameString,
     pub(crate) args: u8,
 }
 
-// Adds an object.
+// Returns the last segment of a name.
+pub(crate) fn segment(name: &[u8]) -> &[u8]
+    ensures { result.now ≡ segment name.now }
+{
+    &name[name.len().saturating_sub(4)..]
+}
+
+// Which objects are kept.
+#[derive(Clone, Copy)]
+enum Kept<'a> {
+    All,
+    // Those whose last segment is one of these.
+    Among(&'a Arities),
+}
+
+// Returns whether an object of this name is kept.
+fn keeps(kept: Kept<'_>, name: &[u8]) -> bool
+    ensures { result ≡ keeps kept.entry name.now }
+{
+    match kept {
+        Kept::All => true,
+        Kept::Among(among) => among.count_of(segment(name)) != 0,
+    }
+}
+
+// Adds an object of a path.
+fn push_at(
+    alloc: Global,
+    path: String,
+    name: &NameString,
+    args: u8,
+    all: &mut Vec<Object>,
+) -> Result<(), AllocError>
+    ensures { OnOk result (map callee_by all.new.items ≡ map callee_by all.old.items
+        ++ callee (string_bytes path) name.now args ∷ []) }
+{
+    let name = name_of(alloc, name.as_bytes())?;
+    all.push(Object { path, name, args })?;
+    Ok(())
+}
+
+// Adds an object, if it is kept.
 fn push_object(
     alloc: Global,
+    kept: Kept<'_>,
     scope: &str,
     name: &NameString,
     args: u8,
     all: &mut Vec<Object>,
 ) -> Result<(), AllocError>
-    ensures { OnOk result (map callee_by all.new.items ≡ map callee_by all.old.items ++ makes scope.now name.now args) }
+    ensures { OnOk result (map callee_by all.new.items ≡ map callee_by all.old.items
+        ++ all_kept kept.entry (makes scope.now name.now args)) }
 {
-    let scope = String::from_str(alloc, scope)?;
-    let name = name_of(alloc, name.as_bytes())?;
-    all.push(Object { scope, name, args })?;
-    Ok(())
+    if !keeps(kept, name.as_bytes()) {
+        return Ok(());
+    }
+    let path = placed(alloc, scope, name)?;
+    push_at(alloc, path, name, args, all)
 }
 
 // Returns the name that is a segment alone, if these bytes are one.
-fn as_segment(alloc: Global, bytes: &[u8]) -> Result<Option<NameString>, AllocError>
+pub(crate) fn as_segment(alloc: Global, bytes: &[u8]) -> Result<Option<NameString>, AllocError>
     ensures { IfOk result (λ name. name ≡ as_segment bytes.now) }
 {
     match bytes {
@@ -167,11 +212,13 @@ fn as_segment(alloc: Global, bytes: &[u8]) -> Result<Option<NameString>, AllocEr
 // Adds that of an entry of a field.
 fn push_unit(
     alloc: Global,
+    kept: Kept<'_>,
     scope: &str,
     entry: &TermEntry,
     all: &mut Vec<Object>,
 ) -> Result<(), AllocError>
-    ensures { OnOk result (map callee_by all.new.items ≡ map callee_by all.old.items ++ own_unit scope.now (entry_view entry.now)) }
+    ensures { OnOk result (map callee_by all.new.items ≡ map callee_by all.old.items
+        ++ all_kept kept.entry (own_unit scope.now (entry_view entry.now))) }
 {
     let TermEntry::Named(bytes, ..) = entry else {
         return Ok(());
@@ -179,21 +226,22 @@ fn push_unit(
     let Some(name) = as_segment(alloc, bytes)? else {
         return Ok(());
     };
-    push_object(alloc, scope, &name, 0, all)
+    push_object(alloc, kept, scope, &name, 0, all)
 }
 
 // Adds those of the entries of a field.
 fn push_units(
     alloc: Global,
+    kept: Kept<'_>,
     scope: &str,
     entries: &[TermEntry],
     all: &mut Vec<Object>,
 ) -> Result<(), AllocError>
     ensures { OnOk result (map callee_by all.new.items ≡ map callee_by all.old.items
-        ++ own_units scope.now (map entry_view entries.now)) }
+        ++ all_kept kept.entry (own_units scope.now (map entry_view entries.now))) }
 {
     'entries: for entry in entries {
-        push_unit(alloc, scope, entry, all)?;
+        push_unit(alloc, kept, scope, entry, all)?;
     }
     Ok(())
 }
@@ -201,6 +249,7 @@ fn push_units(
 // Adds an object of another block.
 fn push_external(
     alloc: Global,
+    kept: Kept<'_>,
     scope: &str,
     name: &NameString,
     kind: u8,
@@ -208,14 +257,14 @@ fn push_external(
     all: &mut Vec<Object>,
 ) -> Result<(), AllocError>
     ensures { OnOk result (map callee_by all.new.items ≡ map callee_by all.old.items
-        ++ own_external scope.now name.now kind args) }
+        ++ all_kept kept.entry (own_external scope.now name.now kind args)) }
 {
     if is_method(kind, args) {
-        push_object(alloc, scope, name, args, all)
+        push_object(alloc, kept, scope, name, args, all)
     } else if kind == 0 || kind == 8 {
         Ok(())
     } else {
-        push_object(alloc, scope, name, 0, all)
+        push_object(alloc, kept, scope, name, 0, all)
     }
 }
 
@@ -259,6 +308,7 @@ fn name_at<'a>(place: usize, first: &'a [Term], others: &'a [Term]) -> Option<&'
 // Adds the object that an operator with these operands makes.
 fn push_made(
     alloc: Global,
+    kept: Kept<'_>,
     scope: &str,
     op: Op,
     first: &[Term],
@@ -266,7 +316,7 @@ fn push_made(
     all: &mut Vec<Object>,
 ) -> Result<(), AllocError>
     ensures { OnOk result (map callee_by all.new.items ≡ map callee_by all.old.items
-        ++ own_operand scope.now (made_by op) (views (first.now ++ others.now))) }
+        ++ all_kept kept.entry (own_operand scope.now (made_by op) (views (first.now ++ others.now)))) }
 {
     let Some(place) = made_by(op) else {
         return Ok(());
@@ -274,12 +324,13 @@ fn push_made(
     let Some(name) = name_at(place, first, others) else {
         return Ok(());
     };
-    push_object(alloc, scope, name, 0, all)
+    push_object(alloc, kept, scope, name, 0, all)
 }
 
 // Adds the objects that a term with these children makes in a scope.
 fn push_own(
     alloc: Global,
+    kept: Kept<'_>,
     scope: &str,
     kind: Kind<'_>,
     first: &[Term],
@@ -287,24 +338,26 @@ fn push_own(
     all: &mut Vec<Object>,
 ) -> Result<(), AllocError>
     ensures { OnOk result (map callee_by all.new.items ≡ map callee_by all.old.items
-        ++ own_objects scope.now (head_of kind.entry) (views (first.now ++ others.now))) }
+        ++ all_kept kept.entry (own_objects scope.now (head_of kind.entry) (views (first.now ++ others.now)))) }
 {
     match kind {
         Kind::Method(name, args, _) | Kind::LeveledMethod(name, args, ..) => {
-            push_object(alloc, scope, name, args, all)
+            push_object(alloc, kept, scope, name, args, all)
         }
-        Kind::External(name, kind, args) => push_external(alloc, scope, name, kind, args, all),
+        Kind::External(name, kind, args) => push_external(
+            alloc, kept, scope, name, kind, args, all,
+        ),
         Kind::Name(name)
         | Kind::Device(name)
         | Kind::Mutex(name, _)
         | Kind::OpRegion(name, _)
         | Kind::PowerResource(name, ..)
         | Kind::Processor(name, ..)
-        | Kind::ThermalZone(name) => push_object(alloc, scope, name, 0, all),
+        | Kind::ThermalZone(name) => push_object(alloc, kept, scope, name, 0, all),
         Kind::Field(_, _, _, _, entries)
         | Kind::IndexField(_, _, _, _, _, entries)
-        | Kind::BankField(_, _, _, _, _, entries) => push_units(alloc, scope, entries, all),
-        Kind::Op(op) => push_made(alloc, scope, op, first, others, all),
+        | Kind::BankField(_, _, _, _, _, entries) => push_units(alloc, kept, scope, entries, all),
+        Kind::Op(op) => push_made(alloc, kept, scope, op, first, others, all),
         _ => Ok(()),
     }
 }
@@ -313,15 +366,16 @@ fn push_own(
 #[cycle(objects)]
 fn push_terms(
     alloc: Global,
+    kept: Kept<'_>,
     scope: &String,
     terms: &[Term],
     all: &mut Vec<Object>,
 ) -> Result<(), AllocError>
     ensures { OnOk result (map callee_by all.new.items ≡ map callee_by all.old.items
-        ++ objects (string_bytes scope.now) (views terms.now)) }
+        ++ all_kept kept.entry (objects (string_bytes scope.now) (views terms.now))) }
 {
     for term in terms {
-        push_term(alloc, scope, term, all)?;
+        push_term(alloc, kept, scope, term, all)?;
     }
     Ok(())
 }
@@ -329,67 +383,68 @@ fn push_terms(
 #[cycle(objects)]
 fn push_term(
     alloc: Global,
+    kept: Kept<'_>,
     scope: &String,
     term: &Term,
     all: &mut Vec<Object>,
 ) -> Result<(), AllocError>
     ensures { OnOk result (map callee_by all.new.items ≡ map callee_by all.old.items
-        ++ objects (string_bytes scope.now) (single (view term.now))) }
+        ++ all_kept kept.entry (objects (string_bytes scope.now) (single (view term.now)))) }
 {
     let parts = parts_of(term);
     push_own(
         alloc,
+        kept,
         scope.as_str(),
         parts.kind,
         parts.first,
         parts.others,
         all,
     )?;
+    if parts.first.is_empty() && parts.others.is_empty() {
+        return Ok(());
+    }
     let own = inside(alloc, scope.as_str(), parts.kind)?;
     let inner = inner_scope(scope, &own);
-    push_terms(alloc, inner, parts.first, all)?;
-    push_terms(alloc, inner, parts.others, all)?;
+    push_terms(alloc, kept, inner, parts.first, all)?;
+    push_terms(alloc, kept, inner, parts.others, all)?;
     Ok(())
 }
 
-// Adds a copy of an object.
-fn push_copy(alloc: Global, object: &Object, all: &mut Vec<Object>) -> Result<(), AllocError>
-    ensures { OnOk result (map callee_by all.new.items ≡ map callee_by all.old.items ++ callee_by object.now ∷ []) }
+// Adds a copy of an object, if it is kept.
+fn push_copy(
+    alloc: Global,
+    kept: Kept<'_>,
+    object: &Object,
+    all: &mut Vec<Object>,
+) -> Result<(), AllocError>
+    ensures { OnOk result (map callee_by all.new.items ≡ map callee_by all.old.items
+        ++ all_kept kept.entry (callee_by object.now ∷ [])) }
 {
-    push_object(alloc, object.scope.as_str(), &object.name, object.args, all)
+    if !keeps(kept, object.name.as_bytes()) {
+        return Ok(());
+    }
+    let path = String::from_str(alloc, object.path.as_str())?;
+    push_at(alloc, path, &object.name, object.args, all)
 }
 
-// Adds copies of objects.
-fn push_copies(alloc: Global, objects: &[Object], all: &mut Vec<Object>) -> Result<(), AllocError>
-    ensures { OnOk result (map callee_by all.new.items ≡ map callee_by all.old.items ++ map callee_by objects.now) }
+// Adds copies of the objects that are kept.
+fn push_copies(
+    alloc: Global,
+    kept: Kept<'_>,
+    objects: &[Object],
+    all: &mut Vec<Object>,
+) -> Result<(), AllocError>
+    ensures { OnOk result (map callee_by all.new.items ≡ map callee_by all.old.items
+        ++ all_kept kept.entry (map callee_by objects.now)) }
 {
     'copies: for object in objects {
-        push_copy(alloc, object, all)?;
+        push_copy(alloc, kept, object, all)?;
     }
     Ok(())
 }
 
 // ---- the objects whose number of arguments matters
-
-// Returns the last segment of a name.
-fn segment(name: &[u8]) -> &[u8]
-    ensures { result.now ≡ segment name.now }
-{
-    &name[name.len().saturating_sub(4)..]
-}
-
-// Adds the last segment of a method with arguments.
-fn add_segment(alloc: Global, object: &Object, all: &mut Arities) -> Result<(), AllocError>
-    ensures { OnOk result (all.new ≡ with_all all.old (own_segment (callee_by object.now))) }
-{
-    if object.args == 0 {
-        return Ok(());
-    }
-    match as_segment(alloc, segment(object.name.as_bytes()))? {
-        Some(name) => all.add(name, object.args),
-        None => Ok(()),
-    }
-}
 
 // Returns an empty list of numbers.
 fn no_numbers(alloc: Global) -> Result<Arities, AllocError>
@@ -401,53 +456,132 @@ fn no_numbers(alloc: Global) -> Result<Arities, AllocError>
     }
 }
 
-// Returns the last segments of the methods with arguments.
-fn segments(alloc: Global, objects: &[Object]) -> Result<Arities, AllocError>
-    ensures { IfOk result (λ all. all ≡ with_all [] (segments (map callee_by objects.now))) }
+// Adds the number of arguments of a name to a list, which is made for the first one.
+fn add_new(
+    alloc: Global,
+    name: NameString,
+    args: u8,
+    all: &mut Option<Arities>,
+) -> Result<(), AllocError>
+    ensures { OnOk result (unwrap_or all.new [] ≡ with_new (unwrap_or all.old []) (name, args)) }
 {
-    let mut all = no_numbers(alloc)?;
-    'objects: for object in objects {
-        add_segment(alloc, object, &mut all)?;
-    }
-    Ok(all)
-}
-
-// Adds an object, if its last segment is among these.
-fn push_among(among: &Arities, object: Object, all: &mut Vec<Object>) -> Result<(), AllocError>
-    ensures { OnOk result (map callee_by all.new.items ≡ map callee_by all.old.items
-        ++ if_among among.now (callee_by object)) }
-{
-    if among.count_of(segment(object.name.as_bytes())) == 0 {
-        return Ok(());
-    }
-    all.push(object)?;
+    let mut list = match all.take() {
+        Some(list) => list,
+        None => no_numbers(alloc)?,
+    };
+    list.add(name, args)?;
+    *all = Some(list);
     Ok(())
 }
 
-// Returns the objects whose last segment is among these.
-fn all_among(
+// Adds the last segment of the name of a method, if it has arguments.
+fn add_segment(
     alloc: Global,
-    among: &Arities,
-    objects: Vec<Object>,
-) -> Result<Vec<Object>, AllocError>
-    ensures { IfOk result (λ all. map callee_by all.items ≡ all_among among.now (map callee_by objects.items)) }
+    name: &NameString,
+    args: u8,
+    all: &mut Option<Arities>,
+) -> Result<(), AllocError>
+    ensures { OnOk result (unwrap_or all.new [] ≡ with_all (unwrap_or all.old []) (segment_of name.now args)) }
 {
-    let mut all = Vec::new(alloc);
-    'objects: for object in objects {
-        push_among(among, object, &mut all)?;
+    if args == 0 {
+        return Ok(());
     }
+    match as_segment(alloc, segment(name.as_bytes()))? {
+        Some(name) => add_new(alloc, name, args, all),
+        None => Ok(()),
+    }
+}
+
+// Adds that of a method that a term is, or that it declares as external.
+fn add_own_segments(
+    alloc: Global,
+    kind: Kind<'_>,
+    all: &mut Option<Arities>,
+) -> Result<(), AllocError>
+    ensures { OnOk result (unwrap_or all.new [] ≡ with_all (unwrap_or all.old []) (own_segments (head_of kind.entry))) }
+{
+    match kind {
+        Kind::Method(name, args, _) | Kind::LeveledMethod(name, args, ..) => {
+            add_segment(alloc, name, args, all)
+        }
+        Kind::External(name, kind, args) if is_method(kind, args) => {
+            add_segment(alloc, name, args, all)
+        }
+        _ => Ok(()),
+    }
+}
+
+// Adds those of the methods in terms.
+#[cycle(segments)]
+fn add_segments(alloc: Global, terms: &[Term], all: &mut Option<Arities>) -> Result<(), AllocError>
+    ensures { OnOk result (unwrap_or all.new [] ≡ with_all (unwrap_or all.old []) (segments_in (views terms.now))) }
+{
+    for term in terms {
+        add_segments_of(alloc, term, all)?;
+    }
+    Ok(())
+}
+
+#[cycle(segments)]
+fn add_segments_of(alloc: Global, term: &Term, all: &mut Option<Arities>) -> Result<(), AllocError>
+    ensures { OnOk result (unwrap_or all.new [] ≡ with_all (unwrap_or all.old []) (segments_in (single (view term.now)))) }
+{
+    let parts = parts_of(term);
+    add_own_segments(alloc, parts.kind, all)?;
+    add_segments(alloc, parts.first, all)?;
+    add_segments(alloc, parts.others, all)?;
+    Ok(())
+}
+
+// Adds those of objects.
+fn add_further(
+    alloc: Global,
+    objects: &[Object],
+    all: &mut Option<Arities>,
+) -> Result<(), AllocError>
+    ensures { OnOk result (unwrap_or all.new [] ≡ with_all (unwrap_or all.old []) (segments (map callee_by objects.now))) }
+{
+    'objects: for object in objects {
+        add_segment(alloc, &object.name, object.args, all)?;
+    }
+    Ok(())
+}
+
+// Returns the last segments of the methods with arguments in terms, and of those of further blocks.
+fn all_segments(
+    alloc: Global,
+    terms: &[Term],
+    further: &[Object],
+) -> Result<Option<Arities>, AllocError>
+    ensures { IfOk result (λ all. unwrap_or all [] ≡ with_all [] (segments (objects [] (views terms.now)
+        ++ map callee_by further.now))) }
+{
+    let mut all = None;
+    add_segments(alloc, terms, &mut all)?;
+    add_further(alloc, further, &mut all)?;
     Ok(all)
 }
 
-// Returns the methods with arguments, and the objects whose names end as those of one of them.
-fn callees(alloc: Global, objects: Vec<Object>) -> Result<Vec<Object>, AllocError>
-    ensures { IfOk result (λ all. map callee_by all.items ≡ callees (map callee_by objects.items)) }
+// Returns the objects of terms and those of further blocks, of which the last segment is among these.
+fn all_among(
+    alloc: Global,
+    among: &Arities,
+    terms: &[Term],
+    further: &[Object],
+) -> Result<Vec<Object>, AllocError>
+    ensures { IfOk result (λ all. map callee_by all.items ≡ all_among among.now (objects [] (views terms.now)
+        ++ map callee_by further.now)) }
 {
-    let among = segments(alloc, &objects)?;
-    all_among(alloc, &among, objects)
+    let kept = Kept::Among(among);
+    let root = String::new(alloc);
+    let mut all = Vec::new(alloc);
+    push_terms(alloc, kept, &root, terms, &mut all)?;
+    push_copies(alloc, kept, further, &mut all)?;
+    Ok(all)
 }
 
-// Returns what calls may name in the terms of a block: its objects, and those of further blocks.
+// Returns what calls may name in the terms of a block: of its objects and those of further blocks, the methods with arguments,
+// and all whose names end as those of one of them.
 pub(crate) fn all_callees(
     alloc: Global,
     terms: &[Term],
@@ -455,11 +589,10 @@ pub(crate) fn all_callees(
 ) -> Result<Vec<Object>, AllocError>
     ensures { IfOk result (λ all. map callee_by all.items ≡ all_callees (views terms.now) (map callee_by further.now)) }
 {
-    let root = String::new(alloc);
-    let mut all = Vec::new(alloc);
-    push_terms(alloc, &root, terms, &mut all)?;
-    push_copies(alloc, further, &mut all)?;
-    callees(alloc, all)
+    match all_segments(alloc, terms, further)? {
+        Some(among) => all_among(alloc, &among, terms, further),
+        None => Ok(Vec::new(alloc)),
+    }
 }
 
 // ---- numbers of arguments
@@ -472,8 +605,7 @@ fn add_object(alloc: Global, args: u8, object: &Object, all: &mut Arities) -> Re
     if object.args != args {
         return Ok(());
     }
-    let path = placed(alloc, object.scope.as_str(), &object.name)?;
-    add_calls(alloc, path.as_str(), object.args, all)
+    add_calls(alloc, object.path.as_str(), object.args, all)
 }
 
 // Adds those of the objects with this number of arguments.
@@ -529,7 +661,8 @@ pub fn add_objects_in(
 {
     let terms = terms_in_part(bytes, stated)?;
     let root = String::new(alloc);
-    push_terms(alloc, &root, &terms, all)
+    push_terms(alloc, Kept::All, &root, &terms, all)?;
+    Ok(())
 }
 
 /// How many arguments names take in a definition block: the stated numbers, those of the objects that the block itself makes, or
@@ -546,9 +679,9 @@ pub fn own_arities(
 ) -> Result<Arities, AllocError>
     ensures { IfOk result (λ all. AreOwn stated.now (map callee_by further.now) bytes.now all) }
 {
-    let mut objects = Vec::new(alloc);
-    add_objects_in(alloc, bytes, stated, &mut objects)?;
-    push_copies(alloc, further, &mut objects)?;
-    let objects = callees(alloc, objects)?;
+    let objects = {
+        let terms = terms_in_part(bytes, stated)?;
+        all_callees(alloc, &terms, further)?
+    };
     own_numbers(alloc, stated, &objects)
 }

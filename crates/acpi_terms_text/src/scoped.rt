@@ -3,19 +3,23 @@
 ghost use Rattle.std.specs.Prelude.{◌≡◌, ◌++◌, ◌-◌, ◌/◌, ◌||◌, ◌⊎◌, OnOk, IfOk, IfErr, string_bytes, [], ◌∷◌, map, length};
 ghost use Rattle.acpi_term.specs.Arity.{arity, with_all};
 ghost use Rattle.acpi_term.specs.View.{head_of, view, views, single};
-ghost use Rattle.acpi_terms_text.specs.Objects.{callee_by};
-ghost use Rattle.acpi_terms_text.specs.Scoped.{outer, here, made_in, near, nearest, may_name, mention, differ, numbers_in};
+ghost use Rattle.acpi_terms_text.specs.Objects.{as_segment, callee_by, counted};
+ghost use Rattle.acpi_terms_text.specs.Scoped.{outer, around, here, made_in, near, nearest, may_name, mention, differ, numbers_in};
 ghost use Rattle.acpi_terms_text.specs.Scoped.{AreReadAgain, AreKept, IsBody, AreScoped, AreInScopes};
 
-use crate::objects::{Object, add_objects, add_predefined, all_callees, opened};
+use crate::objects::{
+    Object, add_objects, add_predefined, all_callees, as_segment, opened, segment,
+};
 use acpi_base::error::Error;
 use acpi_read::terms::standard_terms;
 use acpi_term::apart::{Kind, parts_of};
-use acpi_term::name_string::{Arities, name_of, without_parents};
+use acpi_term::name_string::{Arities, without_parents};
 use acpi_term::read_error::ReadError;
+use acpi_term::segment::is_segment;
 use acpi_term::spell::spell;
 use acpi_term::term::Term;
 use std::alloc::{AllocError, Global};
+use std::mem::replace;
 
 // How many arguments calls in a block take.
 #[derive(Clone, Copy)]
@@ -34,7 +38,25 @@ fn outer(scope: &[u8]) -> &[u8]
     &scope[..scope.len().saturating_sub(5)]
 }
 
-// Adds the number of an object, if a term of this scope makes it.
+// Returns the scope in which an object is.
+fn around(object: &Object) -> &[u8]
+    ensures { result.now ≡ around (callee_by object.now).path }
+{
+    let path = object.path.as_bytes();
+    &path[..path.len().saturating_sub(4)]
+}
+
+// Adds the number of a segment, if these bytes are one.
+fn add_segment(alloc: Global, bytes: &[u8], args: u8, all: &mut Arities) -> Result<(), AllocError>
+    ensures { OnOk result (all.new ≡ with_all all.old (counted args (as_segment bytes.now))) }
+{
+    match as_segment(alloc, bytes)? {
+        Some(name) => all.add(name, args),
+        None => Ok(()),
+    }
+}
+
+// Adds the number of an object, if it is in this scope.
 fn add_here(
     alloc: Global,
     scope: &[u8],
@@ -43,14 +65,13 @@ fn add_here(
 ) -> Result<(), AllocError>
     ensures { OnOk result (all.new ≡ with_all all.old (here scope.now (callee_by object.now))) }
 {
-    if object.scope.as_bytes() != scope {
+    if around(object) != scope {
         return Ok(());
     }
-    let name = name_of(alloc, object.name.as_bytes())?;
-    all.add(name, object.args)
+    add_segment(alloc, segment(object.name.as_bytes()), object.args, all)
 }
 
-// Adds the numbers of the objects that terms of a scope make.
+// Adds the numbers of the objects in a scope.
 fn add_made_in(
     alloc: Global,
     scope: &[u8],
@@ -123,13 +144,23 @@ fn mentions(name: &[u8], term: &Term) -> bool
     mention(name, parts.others)
 }
 
-// Returns whether an object that a term of this scope makes has another number than its name in a list, and a body has the name.
+// Returns whether a segment has another number than in a list, and a body has it as a name.
+fn differs_by(own: &Arities, bytes: &[u8], args: u8, body: &[Term]) -> bool
+    ensures { result ≡ differ own.now (views body.now) (counted args (as_segment bytes.now)) }
+{
+    match bytes {
+        [a, b, c, d] => {
+            is_segment(*a, *b, *c, *d) && own.count_of(bytes) != args && mention(bytes, body)
+        }
+        _ => false,
+    }
+}
+
+// Returns whether an object in this scope has another number than its last segment in a list, and a body has the segment as a name.
 fn differs_here(own: &Arities, scope: &[u8], body: &[Term], object: &Object) -> bool
     ensures { result ≡ differ own.now (views body.now) (here scope.now (callee_by object.now)) }
 {
-    object.scope.as_bytes() == scope
-        && own.count_of(object.name.as_bytes()) != object.args
-        && mention(object.name.as_bytes(), body)
+    around(object) == scope && differs_by(own, segment(object.name.as_bytes()), object.args, body)
 }
 
 // Returns whether one of them has.
@@ -222,16 +253,31 @@ fn scoped_terms(
     alloc: Global,
     numbers: &Numbers<'_>,
     scope: &String,
-    terms: Vec<Term>,
+    mut terms: Vec<Term>,
 ) -> Result<Vec<Term>, AllocError>
     ensures { IfOk result (λ all. AreScoped numbers.now.stated.now (map callee_by numbers.now.objects.now) numbers.now.own.now
         (string_bytes scope.now) (views terms.items) (views all.items)) }
 {
-    let mut all = Vec::with_capacity(alloc, terms.len())?;
-    for term in terms {
-        all.push(scoped_term(alloc, numbers, scope, term)?)?;
+    for term in terms.iter_mut() {
+        let old = replace(term, Term::Ones);
+        *term = scoped_term(alloc, numbers, scope, old)?;
     }
-    Ok(all)
+    Ok(terms)
+}
+
+#[cycle(scoped)]
+fn scoped_box(
+    alloc: Global,
+    numbers: &Numbers<'_>,
+    scope: &String,
+    mut term: Box<Term>,
+) -> Result<Box<Term>, AllocError>
+    ensures { IfOk result (λ new. AreScoped numbers.now.stated.now (map callee_by numbers.now.objects.now) numbers.now.own.now
+        (string_bytes scope.now) (single (view term.value)) (single (view new.value))) }
+{
+    let old = replace(&mut *term, Term::Ones);
+    *term = scoped_term(alloc, numbers, scope, old)?;
+    Ok(term)
 }
 
 #[cycle(scoped)]
@@ -296,6 +342,36 @@ fn scoped_term(
             let body = scoped_terms(alloc, numbers, &inner, body)?;
             Ok(Term::ThermalZone { width, name, body })
         }
+        Term::If {
+            width,
+            predicate,
+            body,
+        } => {
+            let predicate = scoped_box(alloc, numbers, scope, predicate)?;
+            let body = scoped_terms(alloc, numbers, scope, body)?;
+            Ok(Term::If {
+                width,
+                predicate,
+                body,
+            })
+        }
+        Term::While {
+            width,
+            predicate,
+            body,
+        } => {
+            let predicate = scoped_box(alloc, numbers, scope, predicate)?;
+            let body = scoped_terms(alloc, numbers, scope, body)?;
+            Ok(Term::While {
+                width,
+                predicate,
+                body,
+            })
+        }
+        Term::Else { width, body } => {
+            let body = scoped_terms(alloc, numbers, scope, body)?;
+            Ok(Term::Else { width, body })
+        }
         Term::Method {
             width,
             name,
@@ -352,6 +428,9 @@ pub fn in_scopes(
     ensures { IfOk result (λ all. AreInScopes stated.now (map callee_by further.now) own.now (views terms.items) (views all.items)) }
 {
     let objects = all_callees(alloc, &terms, further)?;
+    if objects.is_empty() {
+        return Ok(terms);
+    }
     let numbers = Numbers {
         stated,
         objects: &objects,

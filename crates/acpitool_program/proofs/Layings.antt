@@ -1,7 +1,8 @@
 -- The image of a folder's files.
-use Rattle.std.proofs.Common.{◌≡◌, ◌⊎◌, ℕ, ◌<◌, Bool, true, false, List, [], ◌∷◌, ◌++◌, ◌+◌, Option, None, length, take, drop, map, get_or, sym, ap, subst, ◌∙◌, inl, inr, Result, Ok, Err, MatchResult}
+use Rattle.std.proofs.Common.{◌≡◌, ◌⊎◌, ℕ, ◌<◌, Bool, true, false, List, [], ◌∷◌, ◌++◌, ◌+◌, Option, None, Some, length, take, drop, map, get_or, sym, ap, subst, ◌∙◌, inl, inr, Result, Ok, Err, MatchResult}
 use Rattle.std.proofs.lemmas.List.{at_drop_more, map-append, map_more, take-append-drop}
 use Rattle.std.specs.Io.KnownBytes.{Keeps, Appends}
+use Rattle.acpi_compile.specs.Compiled.{is_asl}
 use Rattle.acpi_layout.specs.Files.{IsLaid}
 use Rattle.acpi_layout.specs.declared.layout.Image.{Image}
 use Rattle.acpi_layout.specs.declared.located.Located.{Located}
@@ -9,7 +10,7 @@ use Rattle.acpi_make.specs.declared.extent.Own.{Own}
 use Rattle.acpitool_program.proofs.Archives.{saved_then, not_saved_then}
 use Rattle.acpitool_program.proofs.Streams.{keeps_kept, keeps_then, appends_nothing}
 use Rattle.acpitool_program.specs.Image.{IsFoundImage}
-use Rattle.acpitool_program.specs.Laying.{is_text, IsTableOf, AreOfText, MayBeLaid, IsFile, IsNoFile, IsUnmade}
+use Rattle.acpitool_program.specs.Laying.{is_text, IsTableOfFields, IsTableBy, IsTableOf, OfTextOrNot, AreOfText, MayBeLaid, IsFile, IsNoFile, IsUnmade}
 use Rattle.acpitool_program.specs.Laying.{AreFiles, IsRefused, IsMisread, IsNotFound, HaveNoneLaid, IsNotLaid, IsFoundOf, IsImageOf}
 use Rattle.acpitool_program.specs.Laying.{IsSavedTo, IsSaved, IsLaidOut}
 use Rattle.acpitool_program.specs.Making.{IsChecked, warnings, IsJudged, MadeText, Held, NotMade}
@@ -33,11 +34,21 @@ quietly path owns bytes a b judged =
     let T : Option Fault → Type 0 = λ f. Appends a b (warnings path [] f) in
     (appends_nothing a b (subst T are.1 (subst S are.0 judged.noted)), are.0, subst R are.1 (subst Q are.0 judged.checked))
 
-pub made_then : (path text bytes : List ℕ) (a b : Option (List ℕ)) → MadeText false path text bytes a b → IsTableOf text bytes × Keeps a b
+made_then : (path text bytes : List ℕ) (a b : Option (List ℕ)) → MadeText false path text bytes a b → IsTableOfFields text bytes × Keeps a b
 made_then path text bytes a b one =
     let all = quietly path one.made.untrue.items one.made.bytes.items a b one.judged in
     let P : List ℕ → Type 0 = λ l. IsSoundOr l None in
     (record { made = one.made; is = one.is; same = one.same; right = all.1; sound = subst P one.same all.2 }, all.0)
+
+-- the same of a text that is ASL or not
+table_by : (asl : Bool) (path text bytes : List ℕ) (a b : Option (List ℕ)) → OfTextOrNot asl path text (Some bytes) a b
+    → IsTableBy asl text bytes × Keeps a b
+table_by true path text bytes a b one = one
+table_by false path text bytes a b one = made_then path text bytes a b one
+
+pub table_then : (path text bytes : List ℕ) (a b : Option (List ℕ)) → OfTextOrNot (is_asl text) path text (Some bytes) a b
+    → IsTableOf text bytes × Keeps a b
+table_then path text bytes a b one = let both = table_by (is_asl text) path text bytes a b one in (record { by = both.0 }, both.1)
 
 -- a file of its own bytes, and that of a text's table
 pub plain_file : {Y : Type 0} (g : Y → List ℕ) (path : List ℕ) (bytes : Y) (found : Result Y ℕ) (a b : Option (List ℕ)) → is_text path ≡ false
@@ -83,15 +94,21 @@ held_then path text a b c kept not = record {
   };
 }
 
-unmade_by : (path text : List ℕ) (a b c : Option (List ℕ)) → Keeps a b → Held false path text b c ⊎ NotMade path text b c
+unmade_fields : (path text : List ℕ) (a b c : Option (List ℕ)) → Keeps a b → Held false path text b c ⊎ NotMade path text b c
     → Held false path text a c ⊎ NotMade path text a c
-unmade_by path text a b c kept (inl not) = inl (held_then path text a b c kept not)
-unmade_by path text a b c kept (inr not) =
+unmade_fields path text a b c kept (inl not) = inl (held_then path text a b c kept not)
+unmade_fields path text a b c kept (inr not) =
     inr (record { wrong = not.wrong; is = not.is; complained = keeps_then a b c _ kept not.complained })
+
+unmade_by : (asl : Bool) (path text : List ℕ) (a b c : Option (List ℕ)) → Keeps a b → OfTextOrNot asl path text None b c
+    → OfTextOrNot asl path text None a c
+unmade_by true path text a b c kept not =
+    record { at = not.at; why = not.why; complained = keeps_then a b c _ kept not.complained }
+unmade_by false path text a b c kept not = unmade_fields path text a b c kept not
 
 unmade_then : (path : List ℕ) (a b c : Option (List ℕ)) (status : ℕ) → Keeps a b → IsUnmade path b c status → IsUnmade path a c status
 unmade_then path a b c status kept one =
-    record { text = one.text; not = unmade_by path one.text a b c kept one.not; is = one.is }
+    record { text = one.text; not = unmade_by (is_asl one.text) path one.text a b c kept one.not; is = one.is }
 
 -- a file that is refused after others
 refused_then : (path : List ℕ) (a b c : Option (List ℕ)) (status : ℕ) → Keeps a b → IsRefused path b c status → IsRefused path a c status

@@ -3,6 +3,7 @@ use Rattle.std.specs.Prelude.{◌≡◌, ◌≢◌, ◌⊎◌, ℕ, nat_eq, List
 use Rattle.std.specs.List.{slice_get, ends_with}
 use Rattle.std.specs.Str.{bytes_eq}
 use Rattle.std.specs.Io.KnownBytes.{Keeps, Appends}
+use Rattle.acpi_compile.specs.Compiled.{is_asl, IsCompiled}
 use Rattle.acpi_forms.specs.Kind.{kind_of}
 use Rattle.acpi_forms.specs.Makes.{IsMade}
 use Rattle.acpi_layout.specs.FaultText.{hexadecimal}
@@ -19,7 +20,8 @@ use Rattle.acpitool_program.specs.Archiving.{CantBeRead}
 use Rattle.acpitool_program.specs.Fault.{line_of, Says}
 use Rattle.acpitool_program.specs.Image.{IsFoundImage}
 use Rattle.acpitool_program.specs.Listing.{IsNoImage, why}
-use Rattle.acpitool_program.specs.Making.{Held, NotMade, Saved, NotSaved}
+use Rattle.acpitool_program.specs.Compiling.{CompiledOrNot}
+use Rattle.acpitool_program.specs.Making.{MadeOrNot, Saved, NotSaved}
 use Rattle.acpitool_program.specs.Structures.{IsSoundOr}
 use Rattle.acpitool_program.specs.Text.{IsKind, IsTextFault}
 use Rattle.acpitool_program.specs.declared.fault.Fault.{Fault}
@@ -29,15 +31,29 @@ use Rattle.acpitool_program.specs.declared.image.NoImage.{NoImage}
 
 -- whether a file is a text by its name
 abbrev pub is_text : List ℕ → Bool
-is_text path = ends_with nat_eq path (codes ".txt")
+is_text path =
+    ends_with nat_eq path (codes ".txt") || ends_with nat_eq path (codes ".asl") || ends_with nat_eq path (codes ".dsl")
 
--- the text is made into a table of these bytes, with which nothing is wrong
-pub record IsTableOf (text bytes : List ℕ) : Type 0 where
+-- the text of fields is made into a table of these bytes, with which nothing is wrong
+pub record IsTableOfFields (text bytes : List ℕ) : Type 0 where
   pub made : Made
   pub is : IsMade text (Ok made)
   pub same : made.bytes.items ≡ bytes
   pub right : made.untrue.items ≡ []
   pub sound : IsSoundOr bytes None
+
+-- the bytes are those of the table of a text, which is ASL or not
+abbrev pub IsTableBy : Bool → List ℕ → List ℕ → Type 0
+IsTableBy true text bytes = IsCompiled text bytes
+IsTableBy false text bytes = IsTableOfFields text bytes
+
+pub record IsTableOf (text bytes : List ℕ) : Type 0 where
+  pub by : IsTableBy (is_asl text) text bytes
+
+-- what comes of a text, which is ASL or not: the bytes of its table, if there is one
+abbrev pub OfTextOrNot : Bool → List ℕ → List ℕ → Option (List ℕ) → Option (List ℕ) → Option (List ℕ) → Type 0
+OfTextOrNot true path text found err err' = CompiledOrNot path text found err err'
+OfTextOrNot false path text found err err' = MadeOrNot false path text found err err'
 
 -- whether bytes are those of a text's table
 abbrev pub AreOfText : Bool → List ℕ → Type 0
@@ -83,7 +99,7 @@ pub record IsNoFile (path bytes : List ℕ) (err err' : Option (List ℕ)) (stat
 -- a text isn't made into a table, or numbers of its table are wrong, and lines say so
 pub record IsUnmade (path : List ℕ) (err err' : Option (List ℕ)) (status : ℕ) : Type 0 where
   pub text : List ℕ
-  pub not : Held false path text err err' ⊎ NotMade path text err err'
+  pub not : OfTextOrNot (is_asl text) path text None err err'
   pub is : status ≡ 1
 
 -- a file isn't laid: it can't be read, isn't what its signature says, or is a text without a table

@@ -78,13 +78,13 @@ for byte as cpio -H newc makes it, with root as owner and the time 0. Each file 
 header. As FILE, - is standard output; a regular FILE is replaced as make does it.
 
 lay writes the image of the tables of FOLDER for the physical address BASE in hexadecimal, a multiple of 0x40. Each file
-has to be a table, an RSDP or a FACS, or a text whose name ends in .txt, which make would make into one. One is the FADT,
-one the DSDT, and one the FACS, which may be missing if the FADT has the flag HW_REDUCED_ACPI. The image has an RSDP and
-an XSDT of its own, so those of FOLDER aren't laid, nor is an RSDT. Of the tables only the FADT is changed: it points to
-the FACS and the DSDT. Tables are laid in the order of their files' names. A line has the address of the RSDP. As FILE, -
-is standard output, and the line goes to standard error; a regular FILE is replaced as make does it, unless it is one of
-the tables. With --rsdp the RSDP is for ADDRESS in hexadecimal, a multiple of 0x10 such as e0000, and not in FILE: FILE.rsdp
-has its bytes, which FILE would else have at its end.
+has to be a table, an RSDP or a FACS, or a text whose name ends in .txt, .asl or .dsl, which make would make into one.
+One is the FADT, one the DSDT, and one the FACS, which may be missing if the FADT has the flag HW_REDUCED_ACPI. The image
+has an RSDP and an XSDT of its own, so those of FOLDER aren't laid, nor is an RSDT. Of the tables only the FADT is
+changed: it points to the FACS and the DSDT. Tables are laid in the order of their files' names. A line has the address
+of the RSDP. As FILE, - is standard output, and the line goes to standard error; a regular FILE is replaced as make does
+it, unless it is one of the tables. With --rsdp the RSDP is for ADDRESS in hexadecimal, a multiple of 0x10 such as e0000,
+and not in FILE: FILE.rsdp has its bytes, which FILE would else have at its end.
 
 loader writes the files by which QEMU hands the tables of FOLDER to firmware: OUT/etc/acpi/tables, OUT/etc/acpi/rsdp and
 OUT/etc/table-loader. The tables are laid as lay does it, without addresses. The last file has the commands by which

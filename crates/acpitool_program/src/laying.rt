@@ -2,14 +2,17 @@
 
 ghost use Rattle.std.specs.Prelude.{◌≡◌, ◌⊎◌, ℕ, List, map, string_bytes, IfOk, IfErr, OnOk, MatchResult};
 ghost use Rattle.std.specs.Io.KnownBytes.{Keeps, Appends};
+ghost use Rattle.std.specs.Option.{option_map};
+ghost use Rattle.acpi_compile.specs.Compiled.{is_asl};
 ghost use Rattle.acpi_layout.specs.declared.located.Located.{Located};
 ghost use Rattle.acpitool_program.specs.Image.{IsFoundImage};
-ghost use Rattle.acpitool_program.specs.Laying.{is_text, IsTableOf, IsUnmade, MayBeLaid, IsFile, AreFiles, IsFileFault};
+ghost use Rattle.acpitool_program.specs.Laying.{is_text, IsTableOf, OfTextOrNot, IsUnmade, MayBeLaid, IsFile, AreFiles, IsFileFault};
 ghost use Rattle.acpitool_program.specs.Laying.{IsNoFile, IsRefused, IsMisread};
 ghost use Rattle.acpitool_program.specs.Laying.{has_path, replaced_line, blamed};
 ghost use Rattle.acpitool_program.specs.Laying.{IsNotFound, HaveNoneLaid, IsNotLaid, IsFoundOf, IsImageOf, rsdp_line};
 ghost use Rattle.acpitool_program.specs.Laying.{IsSavedTo, IsSaved, HasNoImage, LaysFolder};
 
+use crate::compiling::compile_text;
 use crate::complaint::complain;
 use crate::fault::Fault;
 use crate::files::{files_in, read_file};
@@ -18,6 +21,7 @@ use crate::listing::tell_no_image;
 use crate::making::{make_text, save};
 use crate::outcome::tell_unread;
 use crate::text::check_kind;
+use acpi_compile::block::is_asl;
 use acpi_forms::kind::kind_of;
 use acpi_layout::files::lay_files;
 use acpi_layout::lay_fault::LayFault;
@@ -67,7 +71,25 @@ fn sound<E: Write>(
 fn is_text(path: &str) -> bool
     ensures { result ≡ is_text path.now }
 {
-    path.as_bytes().ends_with(b".txt")
+    let name = path.as_bytes();
+    name.ends_with(b".txt") || name.ends_with(b".asl") || name.ends_with(b".dsl")
+}
+
+// Returns the table of a text of fields, or the definition block of a text of ASL, or prints why there is none.
+fn made_of<E: Write>(
+    alloc: Global,
+    path: &str,
+    text: &[u8],
+    err: &mut E,
+) -> io::Result<Option<Vec<u8>>>
+    ensures { IfOk result (λ table. OfTextOrNot (is_asl text.now) path.now text.now (option_map (λ bytes. bytes.items) table)
+        (E.contents err.old) (E.contents err.new)) }
+{
+    if is_asl(alloc, text)? {
+        compile_text(alloc, path, text, err)
+    } else {
+        make_text(alloc, false, path, text, err)
+    }
 }
 
 // Returns the table of a text, or prints why it has none, and returns 1.
@@ -81,7 +103,7 @@ fn table_of<E: Write>(
         (λ file. IsTableOf text.now file.items × Keeps (E.contents err.old) (E.contents err.new))
         (λ status. IsUnmade path.now (E.contents err.old) (E.contents err.new) status)) }
 {
-    match make_text(alloc, false, path, text, err)? {
+    match made_of(alloc, path, text, err)? {
         Some(bytes) => Ok(Ok(bytes)),
         None => Ok(Err(1)),
     }
@@ -320,8 +342,8 @@ fn save_image<R: Files, O: Write, E: Write>(
 
 /// Writes the image of the tables of a folder, which is for the physical address `base`, to a file, or to standard output if it
 /// is `-`. The tables are laid as `lay_files` does it, in the order of the files' names. Each file has to be a table, an RSDP or
-/// a FACS by its signature, or a text whose name ends in `.txt`: it becomes its table. A line on `out` has the address of the
-/// image's RSDP, or on `err` if the image goes to `out`.
+/// a FACS by its signature, or a text whose name ends in `.txt`, `.asl` or `.dsl`: it becomes its table. A line on `out` has the
+/// address of the image's RSDP, or on `err` if the image goes to `out`.
 ///
 /// If the files have no image, nothing is written, and lines on `err` say why: a file can't be read or isn't what its signature
 /// says, no XSDT lists it, a text isn't made into a table or numbers of its table are wrong, the file with the image would be one

@@ -29,6 +29,12 @@ pub fn begins(alloc: Global, list: &[Term], text: &str) -> Result<(), Fail> {
     equal(&report_terms(alloc, list)?.starts_with(text), &true)
 }
 
+// The memory of a tree of terms is mostly this.
+#[test]
+fn a_term_takes_48_bytes() -> Result<(), Fail> {
+    equal(&size_of::<Term>(), &48)
+}
+
 // The greatest number of each width, the last local and argument objects, a method with seven arguments, and the last of a
 // field's rules. Their spelling is the bytes.
 #[test]

@@ -27,7 +27,7 @@ use acpi_term::language::Language;
 use acpi_term::mode::Mode;
 use acpi_term::name_string::{Arities, NameString, arguments};
 use acpi_term::op::Op;
-use acpi_term::term::Term;
+use acpi_term::term::{FieldNames, Term};
 use std::alloc::Global;
 
 /// A term whose children are all of a frame, without its children: the width of its length, and its own values.
@@ -507,14 +507,17 @@ fn indexed<'a>(
         return Err(Cause::Flags);
     }
     let entries = entries(language, alloc, rest)?;
+    let names = FieldNames {
+        name,
+        selector: index,
+    };
     Ok(TermStart::Leaf(
         Term::IndexField {
             width,
-            index,
-            name,
             access: flags % 16,
             lock: flags / 16 % 2,
             update: flags / 32,
+            names: Box::new(alloc, names)?,
             entries,
         },
         after,

@@ -191,22 +191,37 @@ fn not_saved_apart(rt: HostRuntime) -> Result<(), Fail> {
 const DSDT_TEXT: &str =
     "  : \"DSDT\"\n  Length: ????????\n  : 02 ?? \"FOOBAR\" \"CAFEDEAD\" 00000001 \"RVAT\" 01000000\n";
 
-// A text whose name ends in `.txt` is laid as its table.
-#[test]
-fn texts_are_laid(rt: HostRuntime) -> Result<(), Fail> {
-    fs::create_dir(&rt, "texts")?;
-    write(&rt, "texts/dsdt.txt", DSDT_TEXT.as_bytes())?;
-    write_padded(&rt, "texts/fadt", &FADT, 148)?;
-    write_padded(&rt, "texts/facs", &FACS, 64)?;
-    write(&rt, "texts/table", &TABLE)?;
+// The same as ASL.
+const DSDT_ASL: &str =
+    "DefinitionBlock (\"\", \"DSDT\", 2, \"FOOBAR\", \"CAFEDEAD\", 0x00000001)\n{\n}\n";
+
+// Lays the other tables and the text of a DSDT in a file of a new folder.
+fn lays_text(rt: &HostRuntime, paths: [&str; 5], text: &str) -> Result<(), Fail> {
+    let [folder, dsdt, fadt, facs, table] = paths;
+    fs::create_dir(rt, folder)?;
+    write(rt, dsdt, text.as_bytes())?;
+    write_padded(rt, fadt, &FADT, 148)?;
+    write_padded(rt, facs, &FACS, 64)?;
+    write(rt, table, &TABLE)?;
     let line = "RSDP at 0x1c000160\n";
-    let words = ["lay", "texts", "texts_image", "1c000000"];
-    ends(&rt, &words, 0, &[line], &[])?;
-    let wanted = joined(&rt, &LAID)?;
-    same(&fs::read(&rt, "texts_image")?, &wanted)
+    let words = ["lay", folder, "texts_image", "1c000000"];
+    ends(rt, &words, 0, &[line], &[])?;
+    let wanted = joined(rt, &LAID)?;
+    same(&fs::read(rt, "texts_image")?, &wanted)
 }
 
-// A text that isn't one of a table, and one whose length is wrong.
+// A text whose name ends in `.txt`, `.asl` or `.dsl` is laid as its table.
+#[test]
+fn texts_are_laid(rt: HostRuntime) -> Result<(), Fail> {
+    let paths = ["txt", "txt/dsdt.txt", "txt/fadt", "txt/facs", "txt/table"];
+    lays_text(&rt, paths, DSDT_TEXT)?;
+    let paths = ["asl", "asl/dsdt.asl", "asl/fadt", "asl/facs", "asl/table"];
+    lays_text(&rt, paths, DSDT_ASL)?;
+    let paths = ["dsl", "dsl/dsdt.dsl", "dsl/fadt", "dsl/facs", "dsl/table"];
+    lays_text(&rt, paths, DSDT_ASL)
+}
+
+// A text that isn't one of a table, one of ASL with a wrong number, and one whose length is wrong.
 #[test]
 fn texts_without_a_table(rt: HostRuntime) -> Result<(), Fail> {
     fs::create_dir(&rt, "no_texts")?;
@@ -216,6 +231,11 @@ fn texts_without_a_table(rt: HostRuntime) -> Result<(), Fail> {
     let line =
         "no_texts/a.txt: line 3, column 12: expected the second digit of a byte (#5 and 0x5 are the number 5), found the end \
 of the line\n";
+    ends(&rt, &words, 1, &[], &[line])?;
+    let asl = b"DefinitionBlock (\"\", \"DSDT\", 2, \"FOOBAR\", \"CAFEDEAD\", 1)\n{\n}\n";
+    write(&rt, path, asl)?;
+    let line =
+        "no_texts/a.txt: line 1, at 1: a number is expected: 0x and 2, 4, 8 or 16 digits, or a count in decimal digits\n";
     ends(&rt, &words, 1, &[], &[line])?;
     write(&rt, path, WRONG.as_bytes())?;
     let lines = [

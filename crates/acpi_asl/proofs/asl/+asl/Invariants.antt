@@ -1,4 +1,4 @@
-use Rattle.std.proofs.Common.{◌+◌, ◌*◌, string_bytes}
+use Rattle.std.proofs.Common.{◌+◌, ◌*◌, ◌++◌, string_bytes}
 use Rattle.acpi_term.specs.Tree.{depth}
 use Rattle.acpi_term.specs.View.{view, views, single}
 use Rattle.acpi_asl.proofs.Walks.{Going}
@@ -11,7 +11,7 @@ abbrev pub decreases-push_term : goal.decreases-push_term
 decreases-push_term l = 3 * depth (single (view l.term.now)) + 1
 
 abbrev pub decreases-push_whole : goal.decreases-push_whole
-decreases-push_whole l = 3 * depth (single (view l.term.now))
+decreases-push_whole l = 3 * depth (views (l.parts.first.now ++ l.parts.others.now)) + 3
 
 abbrev pub invariant-push_terms-loop-term : goal.invariant-push_terms-loop-term
 invariant-push_terms-loop-term l = Going l.fn.place l.depth l.terms l.term-index l.left (string_bytes l.initial.text) (string_bytes l.text)

@@ -1,5 +1,10 @@
-use Rattle.acpi_terms_text.proofs.Segments.{among_on}
+use Rattle.std.proofs.Common.{map, ap}
+use Rattle.acpi_term.specs.View.{views}
+use Rattle.acpi_terms_text.specs.declared.objects.Kept.TheVariants.{Among}
+use Rattle.acpi_terms_text.specs.Objects.{callee_by}
+use Rattle.acpi_terms_text.proofs.Segments.{callees_kept}
 use Rattle.acpi_terms_text.proofs.objects.all_among.Goals as goal
 
-pub objects-preserved : goal.objects-preserved
-objects-preserved c = among_on c.args.among.now c.objects.yielded c.in-Some.object _ _ c.objects.invariant c.in_ok-push_among.ensures
+pub returns : goal.returns
+returns c =
+    callees_kept (Among c.args.among) (views c.args.terms.now) (map callee_by c.args.further.now) _ _ _ _ (ap (map callee_by) c.new-all.ensures.items) c.new-root.ensures.bytes c.in_ok-push_terms.ensures c.in_ok-push_copies.ensures

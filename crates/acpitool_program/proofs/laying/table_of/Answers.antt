@@ -1,5 +1,5 @@
-use Rattle.acpitool_program.proofs.Layings.{made_then}
+use Rattle.acpitool_program.proofs.Layings.{table_then}
 use Rattle.acpitool_program.proofs.laying.table_of.Goals as goal
 
 pub returns-in-Some : goal.returns-in-Some
-returns-in-Some g c = made_then c.args.path.now c.args.text.now _ _ _ (rw c.in-Some.is at c.in_ok-bytes.ensures)
+returns-in-Some g c = table_then c.args.path.now c.args.text.now _ _ _ (rw c.in-Some.is at c.in_ok-bytes.ensures)

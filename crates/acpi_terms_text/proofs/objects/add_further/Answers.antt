@@ -2,7 +2,7 @@ use Rattle.std.proofs.Common.{List, map, refl}
 use Rattle.acpi_terms_text.specs.declared.objects.Object.{Object}
 use Rattle.acpi_terms_text.specs.Objects.{callee_by, segments}
 use Rattle.acpi_terms_text.proofs.Walks.{counts_on}
-use Rattle.acpi_terms_text.proofs.objects.segments.Goals as goal
+use Rattle.acpi_terms_text.proofs.objects.add_further.Goals as goal
 
 pub objects-preserved : goal.objects-preserved
 objects-preserved c =

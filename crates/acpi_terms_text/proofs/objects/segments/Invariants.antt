@@ -1,7 +1,0 @@
-use Rattle.std.proofs.Common.{◌≡◌, [], map, drop}
-use Rattle.acpi_term.specs.Arity.{with_all}
-use Rattle.acpi_terms_text.specs.Objects.{callee_by, segments}
-use Rattle.acpi_terms_text.proofs.objects.segments.Given as goal
-
-abbrev pub invariant-objects : goal.invariant-objects
-invariant-objects l = with_all l.all (segments (map callee_by (drop l.object-index l.objects))) ≡ with_all [] (segments (map callee_by l.objects))
