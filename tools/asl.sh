@@ -1,9 +1,9 @@
 #!/bin/sh
 # Compiles with ACPICA's iasl the ASL that `acpitool disassemble` prints of definition blocks, and compares the terms of what
 # iasl makes with those of the block, byte for byte. It prints a line for each block. With files or folders as arguments, the
-# blocks are the DSDTs and SSDTs among them. Without any they are those of crates/acpitool/data and those that the example
-# writes for both of its machines. The programs and what they stand on are proved first. Not a part of the gate. The status is 1
-# if iasl refuses a text, if the terms are others, or if there is no block.
+# blocks are the DSDTs and SSDTs among them. Without any they are those of crates/acpitool/data, those that the example writes for
+# both of its machines, and 100 that iasl makes of the calls of calls.py. The programs and what they stand on are proved first. Not a
+# part of the gate. The status is 1 if iasl refuses a text, if the terms are others, or if there is no block.
 #
 # iasl runs without its optimizations, which shorten names and numbers. The header isn't compared beyond the OEM's revision, since
 # iasl writes itself and its release there. It doesn't know where a block was made with more bytes than needed for a length or a
@@ -38,7 +38,12 @@ else
     mkdir "$work/acpi" "$work/acpi/arm"
     crates/acpi_example/out/acpi_example "$work/acpi" 1c000000 >"$work/log"
     crates/acpi_example/out/acpi_example arm "$work/acpi/arm" 40000000 >"$work/log"
-    set -- crates/acpitool/data "$work/acpi"
+    mkdir "$work/calls"
+    python3 -B tools/calls.py "$work/calls" 100
+    for block in "$work/calls"/*.asl; do
+        iasl -oa -p "${block%.asl}" "$block" >"$work/log" 2>&1 || fail "${block##*/}: refused by iasl"
+    done
+    set -- crates/acpitool/data "$work/acpi" "$work/calls"
 fi
 
 # Compiles a text to $work/made.aml, by force if iasl refuses it. What iasl says against it is in $work/said.

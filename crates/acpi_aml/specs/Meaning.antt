@@ -1,6 +1,7 @@
 -- The terms that objects spell.
 use Rattle.std.specs.Prelude.{◌≡◌, ℕ, List, length, None}
 use Rattle.acpi_base.specs.Object.{Object, all_of}
+use Rattle.acpi_term.specs.declared.language.Language.TheVariants.{Written}
 use Rattle.acpi_term.specs.declared.mode.Mode.{Mode}
 use Rattle.acpi_term.specs.Tree.{Head, Terms, one}
 use Rattle.acpi_term.specs.Row.{row, writer_width}
@@ -16,5 +17,5 @@ written h objects ts = one h (writer_width h (length objects) (all_of objects).f
 
 -- If each object spells a term, the row of the head over the objects spells the term of this head over these terms.
 abbrev pub RowMeans : (List ℕ → ℕ) → Head → List Object → Type 0
-RowMeans arity h objects = (ts : Terms) → SpellEach arity (inner h) objects ts
+RowMeans arity h objects = (ts : Terms) → SpellEach arity (inner Written h) objects ts
     → Means arity (row h objects) (written h objects ts)

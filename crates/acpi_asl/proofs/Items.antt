@@ -1,14 +1,14 @@
 -- Items of a template, one after the other.
 use Rattle.std.proofs.Common.{◌≡◌, ℕ, zero, suc, ◌+◌, ◌-◌, ◌<◌, ◌≤◌, Bool, true, false, List, [], ◌∷◌, ◌++◌, length, get_or, take, drop, refl, ap, sym, ◌∙◌, append_assoc, arith}
-use Rattle.std.specs.Prelude.{codes, nat_lt, ◌&&◌, not, if◌then◌else◌, Option}
+use Rattle.std.specs.Prelude.{codes, nat_lt, ◌==◌, ◌%◌, ◌&&◌, not, if◌then◌else◌, Option}
 use Rattle.std.proofs.lemmas.Bool.{ne_eqb, eq-eqb}
-use Rattle.std.proofs.lemmas.List.{take_rest}
+use Rattle.std.proofs.lemmas.List.{append-nil, take_rest}
 use Rattle.acpi_read.proofs.Texts.{after_two}
 use Rattle.acpi_asl.specs.Number.{upper_byte}
 use Rattle.acpi_asl.specs.declared.macros.Descriptor.{Descriptor}
 use Rattle.acpi_asl.specs.Content.{digits_at}
 use Rattle.acpi_asl.specs.Descriptor.{descriptors}
-use Rattle.acpi_asl.specs.Template.{comma, dwords, pairs, item_size, found_in, found, is_found, is_zero_alone, is_inside, may_follow, is_template, item_text, items_text}
+use Rattle.acpi_asl.specs.Template.{comma, channels, dwords, pairs, item_size, found_in, found, is_found, is_zero_alone, is_inside, may_follow, is_template, item_text, items_text}
 
 -- the descriptor of an item of the size that it states
 pub found_is : (item : List ℕ) (size : ℕ) (ds : List Descriptor) (r : Option Descriptor) → length item ≡ size → size ≡ item_size item
@@ -137,3 +137,15 @@ digits_written n o item b old one new some is p q =
     let more : suc (n - 1) ≡ n = omega arith in
     after_two old (upper_byte b) (digits_at (n - 1) o item) one new p q
     ∙ ap (λ (k : ℕ). old ++ (upper_byte k ++ digits_at (n - 1) o item)) is ∙ ap (λ (k : ℕ). old ++ digits_at k o item) more
+
+-- ---- the numbers of bits
+
+channels_zero : (first : Bool) (i left : ℕ) → channels first i left 0 ≡ []
+channels_zero first i zero = refl
+channels_zero first i (suc k) = channels_zero (first && not (0 % 2 == 1)) (i + 1) k
+
+-- no bit of zero is set
+pub no_channels : (first : Bool) (i left mask : ℕ) (text : List ℕ) → mask ≡ 0 → text ≡ text ++ channels first i left mask
+no_channels first i left mask text is =
+    sym (append-nil text) ∙ ap (λ (l : List ℕ). text ++ l) (sym (channels_zero first i left))
+    ∙ ap (λ (m : ℕ). text ++ channels first i left m) (sym is)

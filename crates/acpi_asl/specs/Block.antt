@@ -2,8 +2,7 @@
 use Rattle.std.specs.Prelude.{◌≡◌, ◌⊎◌, ℕ, nat_eq, nat_le, ◌&&◌, ◌||◌, Bool, List, length, drop, codes}
 use Rattle.std.specs.List.{starts_with}
 use Rattle.acpi_read.specs.Terms.{AreReadIn, IsUnreadIn}
-use Rattle.acpi_term.specs.Arity.{arity}
-use Rattle.acpi_term.specs.Language.{grammar_of}
+use Rattle.acpi_term.specs.Arity.{grammar_by}
 use Rattle.acpi_term.specs.Tree.{Terms}
 use Rattle.acpi_term.specs.declared.language.Language.TheVariants.{Standard}
 use Rattle.acpi_term.specs.declared.read_error.ReadError.{ReadError}
@@ -37,21 +36,23 @@ block_text Objects header terms = objects_text header terms
 
 -- The text is that of a header and the terms that follow it. Names take the stated numbers of arguments, or else those of the
 -- objects of the block and of further blocks: in a method those of the nearest ones.
-pub record IsBlockText (block : BlockText) (stated : List (List ℕ × ℕ)) (further : List Callee) (bytes text : List ℕ) : Type 0 where
+pub record IsBlockText (block : BlockText) (stated : List (List ℕ × ℕ)) (further : List Callee)
+    (bytes text : List ℕ) : Type 0 where
   pub own : List (List ℕ × ℕ)
   pub methods : AreOwn stated further (drop 36 bytes) own
   pub whole : Terms
-  pub read : AreReadIn (grammar_of Standard (arity own)) (drop 36 bytes) whole
+  pub read : AreReadIn (grammar_by Standard own) (drop 36 bytes) whole
   pub terms : Terms
   pub scoped : AreInScopes stated further own whole terms
   pub is : text ≡ block_text block bytes terms
 
 -- The same of the terms that can be read.
-pub record IsTextInPart (block : BlockText) (stated : List (List ℕ × ℕ)) (further : List Callee) (bytes text : List ℕ) : Type 0 where
+pub record IsTextInPart (block : BlockText) (stated : List (List ℕ × ℕ)) (further : List Callee)
+    (bytes text : List ℕ) : Type 0 where
   pub own : List (List ℕ × ℕ)
   pub methods : AreOwn stated further (drop 36 bytes) own
   pub whole : Terms
-  pub read : AreReadInPart (grammar_of Standard (arity own)) (drop 36 bytes) whole
+  pub read : AreReadInPart (grammar_by Standard own) (drop 36 bytes) whole
   pub terms : Terms
   pub scoped : AreInScopes stated further own whole terms
   pub is : text ≡ block_text block bytes terms
@@ -60,4 +61,4 @@ pub record IsTextInPart (block : BlockText) (stated : List (List ℕ × ℕ)) (f
 pub record AreNoTerms (stated : List (List ℕ × ℕ)) (further : List Callee) (body : List ℕ) (error : ReadError) : Type 0 where
   pub own : List (List ℕ × ℕ)
   pub methods : (error ≡ Memory) ⊎ AreOwn stated further body own
-  pub unread : IsUnreadIn (grammar_of Standard (arity own)) body error
+  pub unread : IsUnreadIn (grammar_by Standard own) body error

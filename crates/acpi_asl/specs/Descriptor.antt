@@ -1,5 +1,5 @@
--- The descriptors of resources, as data: the macro of each, where the macro's arguments are in it, and what holds of each descriptor
--- that the macro makes (ACPI 6.5, 6.4 and 19.2.8).
+-- The descriptors of resources, as data: the macro of each, where the macro's arguments are in it, and what holds of each
+-- descriptor that the macro makes (ACPI 6.5, 6.4 and 19.2.8).
 use Rattle.std.specs.Prelude.{ℕ, ◌+◌, ◌-◌, ◌*◌, List, [], ◌∷◌, ◌++◌, codes}
 use Rattle.acpi_asl.specs.Word.{region_spaces}
 use Rattle.acpi_asl.specs.declared.descriptor.Bits.{Bits}
@@ -104,8 +104,8 @@ minimum = word 4 2 1 kinds.Minimum
 abbrev pub maximum : Part
 maximum = word 4 3 1 kinds.Maximum
 
--- Granularity, minimum, maximum, translation and length, of w bytes each, and what follows them. The descriptor needs a name if the
--- range and the length are zero.
+-- Granularity, minimum, maximum, translation and length, of w bytes each, and what follows them. The descriptor needs a name if
+-- the range and the length are zero.
 abbrev pub range_of : ℕ → ℕ → List Part → List Part
 range_of at w more =
     parts.Number at w ∷ parts.Number (at + w) w ∷ parts.Number (at + 2 * w) w ∷ parts.Number (at + 3 * w) w
@@ -158,12 +158,13 @@ attributes = parts.Number 48 8 ∷ []
 
 -- ---- connections to GPIO pins (6.4.3.8.1) of a type, and descriptors of pins (6.4.3.9 to 6.4.3.13)
 
--- Between the pins, the names and the end, where a vendor's data would begin, there is nothing else: the pins begin after n bytes, and
--- the two bytes at an offset say so. So do the next ones for the names and the vendor's data, which is empty.
+-- Between the pins, the names and the end, where a vendor's data would begin, there is nothing else: the pins begin after n
+-- bytes, and the two bytes at an offset say so. So do the next ones for the names and the vendor's data, which is empty.
 abbrev pub pins_of : ℕ → ℕ → ℕ → ℕ → List Check
 pins_of n table name vendor =
     byte table n ∷ byte (table + 1) 0 ∷ checks.Pairs (offsets.At n) (offsets.Stated name)
-    ∷ checks.Text (offsets.Stated name) (offsets.Stated vendor) ∷ checks.Size vendor ∷ byte (vendor + 2) 0 ∷ byte (vendor + 3) 0 ∷ []
+    ∷ checks.Text (offsets.Stated name) (offsets.Stated vendor) ∷ checks.Size vendor ∷ byte (vendor + 2) 0
+    ∷ byte (vendor + 3) 0 ∷ []
 
 abbrev pub connection_of : ℕ → List Check → List Check
 connection_of kind own = byte 0 0x8c ∷ byte 3 1 ∷ byte 4 kind ∷ clear 5 1 8 ∷ byte 6 0 ∷ own ++ pins_of 23 14 17 19
@@ -176,7 +177,8 @@ controller name vendor index = parts.Text (offsets.Stated name) (offsets.Stated 
 abbrev pub group_of : ℕ → ℕ → List Check
 group_of n name =
     byte name n ∷ byte (name + 1) 0 ∷ checks.Text (offsets.At n) (offsets.Stated (name + 2))
-    ∷ checks.Text (offsets.Stated (name + 2)) (offsets.Stated (name + 4)) ∷ checks.Size (name + 4) ∷ byte (name + 6) 0 ∷ byte (name + 7) 0 ∷ []
+    ∷ checks.Text (offsets.Stated (name + 2)) (offsets.Stated (name + 4)) ∷ checks.Size (name + 4) ∷ byte (name + 6) 0
+    ∷ byte (name + 7) 0 ∷ []
 
 abbrev pub group_parts : ℕ → ℕ → List Part
 group_parts n name =
@@ -200,7 +202,8 @@ bus_of revision bus n own =
 
 -- The controller's name and index, the usage, and two arguments that are left out.
 abbrev pub bus_end : ℕ → List Part
-bus_end n = parts.Text (offsets.At (12 + n)) offsets.End ∷ parts.Number 4 1 ∷ word 6 1 1 kinds.Usage ∷ parts.Blank ∷ parts.Blank ∷ []
+bus_end n =
+    parts.Text (offsets.At (12 + n)) offsets.End ∷ parts.Number 4 1 ∷ word 6 1 1 kinds.Usage ∷ parts.Blank ∷ parts.Blank ∷ []
 
 -- the same with the flag whether the connection is shared, which revision 2 has
 abbrev pub bus_end_2 : ℕ → List Part
@@ -271,20 +274,26 @@ facts items.Memory32 = row (codes "Memory32")
 facts items.Memory32Fixed = row (codes "Memory32Fixed")
     (word 3 0 1 kinds.Access ∷ parts.Number 4 4 ∷ parts.Number 8 4 ∷ [])
     (byte 0 0x86 ∷ byte 1 9 ∷ byte 2 0 ∷ clear 3 1 8 ∷ []) tails.Absent
-facts items.DwordMemory = row (codes "DWordMemory") (memory_parts 6 4 (source (offsets.At 26))) (space_of 0x87 4 memory_checks) tails.Absent
+facts items.DwordMemory =
+    row (codes "DWordMemory") (memory_parts 6 4 (source (offsets.At 26))) (space_of 0x87 4 memory_checks) tails.Absent
 facts items.DwordIo = row (codes "DWordIO") (io_parts 6 4 (source (offsets.At 26))) (space_of 0x87 4 io_checks) tails.Absent
-facts items.DwordSpace = row (codes "DWordSpace") (space_parts 6 4 (source (offsets.At 26))) (space_of 0x87 4 space_checks) tails.Absent
+facts items.DwordSpace =
+    row (codes "DWordSpace") (space_parts 6 4 (source (offsets.At 26))) (space_of 0x87 4 space_checks) tails.Absent
 facts items.WordIo = row (codes "WordIO") (io_parts 6 2 (source (offsets.At 16))) (space_of 0x88 2 io_checks) tails.Absent
-facts items.WordBus = row (codes "WordBusNumber") (bus_parts 6 2 (source (offsets.At 16))) (space_of 0x88 2 bus_checks) tails.Absent
-facts items.WordSpace = row (codes "WordSpace") (space_parts 6 2 (source (offsets.At 16))) (space_of 0x88 2 space_checks) tails.Absent
+facts items.WordBus =
+    row (codes "WordBusNumber") (bus_parts 6 2 (source (offsets.At 16))) (space_of 0x88 2 bus_checks) tails.Absent
+facts items.WordSpace =
+    row (codes "WordSpace") (space_parts 6 2 (source (offsets.At 16))) (space_of 0x88 2 space_checks) tails.Absent
 facts items.Interrupt = row (codes "Interrupt")
     (word 3 0 1 kinds.Usage ∷ word 3 1 1 kinds.Mode ∷ word 3 2 1 kinds.Polarity ∷ word 3 3 2 kinds.Sharing ∷
     parts.Index offsets.Entries ∷ parts.Source offsets.Entries ∷ parts.Blank ∷ [])
     (byte 0 0x89 ∷ clear 3 5 8 ∷ checks.Nonzero (bits 4 0 8) ∷ checks.Source offsets.Entries ∷ [])
     (tails.Dwords (offsets.At 5) offsets.Entries)
-facts items.QwordMemory = row (codes "QWordMemory") (memory_parts 6 8 (source (offsets.At 46))) (space_of 0x8a 8 memory_checks) tails.Absent
+facts items.QwordMemory =
+    row (codes "QWordMemory") (memory_parts 6 8 (source (offsets.At 46))) (space_of 0x8a 8 memory_checks) tails.Absent
 facts items.QwordIo = row (codes "QWordIO") (io_parts 6 8 (source (offsets.At 46))) (space_of 0x8a 8 io_checks) tails.Absent
-facts items.QwordSpace = row (codes "QWordSpace") (space_parts 6 8 (source (offsets.At 46))) (space_of 0x8a 8 space_checks) tails.Absent
+facts items.QwordSpace =
+    row (codes "QWordSpace") (space_parts 6 8 (source (offsets.At 46))) (space_of 0x8a 8 space_checks) tails.Absent
 facts items.ExtendedMemory = row (codes "ExtendedMemory") (memory_parts 8 8 attributes) (extended_of memory_checks) tails.Absent
 facts items.ExtendedIo = row (codes "ExtendedIO") (io_parts 8 8 attributes) (extended_of io_checks) tails.Absent
 facts items.ExtendedSpace = row (codes "ExtendedSpace") (space_parts 8 8 attributes) (extended_of space_checks) tails.Absent

@@ -1,9 +1,9 @@
 -- The objects that a definition block makes when it is loaded, as JSON (ACPI 6.5, 5.3 and 20.2.5; RFC 8259).
-use Rattle.std.specs.Prelude.{ℕ, ◌-◌, nat_eq, ◌==◌, ◌&&◌, Bool, false, if◌then◌else◌, List, [], ◌∷◌, ◌++◌}
+use Rattle.std.specs.Prelude.{ℕ, nat_eq, ◌&&◌, Bool, false, if◌then◌else◌, List, [], ◌∷◌, ◌++◌}
 use Rattle.std.specs.Prelude.{Option, Some, None, length, take, drop, codes}
 use Rattle.std.specs.Fmt.{decimal}
 use Rattle.std.specs.List.{starts_with}
-use Rattle.acpi_read.specs.Lines.{segments_of}
+use Rattle.acpi_terms_text.specs.Path.{path_in}
 use Rattle.acpi_term.specs.Tree.{Entry, named, reserved, access_as, extended_access_as, connection, connection_buffer}
 use Rattle.acpi_term.specs.Tree.{Head, number, string, def_scope, def_device, def_method}
 use Rattle.acpi_term.specs.Tree.{def_power_res, def_field, def_op_region, def_name, def_mutex}
@@ -14,19 +14,6 @@ use Rattle.acpi_asl.specs.Eisa.{is_eisa, json_eisa}
 use Rattle.acpi_asl.specs.Name.{segments_text}
 use Rattle.acpi_asl.specs.Namespace.{has_id, made_by, last_name, has_inside}
 use Rattle.acpi_asl.specs.Number.{json_string, json_number}
-
--- ---- paths: the segments from the root on
-
--- the path of the scope around a scope
-abbrev pub parent : List ℕ → List ℕ
-parent scope = take (length scope - 4) scope
-
--- the path of a name in a scope: from the root after `\`, and in the scope around this one after `^` (ACPI 6.5, 5.3 and 20.2.2)
-abbrev pub path_in : List ℕ → List ℕ → List ℕ
-path_in scope [] = scope
-path_in scope (b ∷ rest) =
-    if b == 92 then segments_of rest
-    else (if b == 94 then path_in (parent scope) rest else scope ++ segments_of (b ∷ rest))
 
 -- ---- the object of a name, after a comma
 

@@ -1,6 +1,6 @@
 -- Where terms stand in the text of another: in its parentheses, or in its braces.
 use Rattle.std.specs.Prelude.{ℕ, zero, suc, ◌-◌, nat_le, ◌==◌, ◌&&◌, ◌||◌, not, Bool, true, false, if◌then◌else◌, List}
-use Rattle.std.specs.Prelude.{[], ◌∷◌, ◌++◌, length, drop, codes}
+use Rattle.std.specs.Prelude.{[], ◌∷◌, ◌++◌, codes}
 use Rattle.std.specs.Str.{bytes_eq}
 use Rattle.acpi_term.specs.declared.op.Op.{Op}
 use Rattle.acpi_term.specs.declared.op.Op.TheVariants as op
@@ -10,6 +10,7 @@ use Rattle.acpi_term.specs.Tree.{def_buffer, def_package, def_var_package, def_i
 use Rattle.acpi_term.specs.Tree.{def_leveled_method, def_processor, def_thermal_zone, def_roomy_package, def_index_field}
 use Rattle.acpi_term.specs.Tree.{def_bank_field}
 use Rattle.acpi_term.specs.Tree.{def_fatal, match_test}
+use Rattle.acpi_terms_text.specs.Path.{last_segment}
 use Rattle.acpi_asl.specs.declared.place.Body.{Body}
 use Rattle.acpi_asl.specs.declared.place.Body.TheVariants.{Absent, Statements, Elements, Rows}
 use Rattle.acpi_asl.specs.declared.place.Place.{Place}
@@ -79,10 +80,6 @@ with_externals externals p =
       uuids = p.uuids;
       externals = externals;
     }
-
--- the last four bytes of a name
-abbrev pub last_segment : List ℕ → List ℕ
-last_segment name = drop (length name - 4) name
 
 -- whether the value of a name is an id (ACPI 6.5, 6.1.2 and 6.1.5)
 abbrev pub is_id_name : List ℕ → Bool

@@ -28,7 +28,8 @@ part_text item n (parts.Number offset w) = codes "0x" ++ digits_at w offset item
 part_text item n parts.Blank = []
 part_text item n (parts.Tag a k b m) = if are_zero item a k && are_zero item b m then tag_text n else []
 part_text item n (parts.Text from to) = string_text (up_to_zero (between item from to))
-part_text item n (parts.Index at) = if offset_of item at == length item then [] else hex 1 (slice_index_or item (offset_of item at) 0)
+part_text item n (parts.Index at) =
+    if offset_of item at == length item then [] else hex 1 (slice_index_or item (offset_of item at) 0)
 part_text item n (parts.Source at) = if offset_of item at == length item then [] else string_text (up_to_zero (source_at item at))
 
 -- the comma before an argument
@@ -132,8 +133,8 @@ abbrev pub is_zero_alone : List ℕ → Bool
 is_zero_alone (b ∷ []) = b == 0
 is_zero_alone _ = false
 
--- Start Dependent Functions Descriptor (6.4.2.3), by its tag: the items up to the next one, or to the end of the functions, are in
--- braces after its macro.
+-- Start Dependent Functions Descriptor (6.4.2.3), by its tag: the items up to the next one, or to the end of the functions, are
+-- in braces after its macro.
 abbrev pub begins_group : ℕ → Bool
 begins_group tag = tag == 0x30 || tag == 0x31
 
@@ -149,14 +150,15 @@ is_inside inside tag = if begins_group tag then true else (if ends_groups tag th
 abbrev pub may_follow : Bool → ℕ → Bool
 may_follow inside tag = inside || not (ends_groups tag)
 
--- Whether bytes are items that are written by macros, and then the end tag (ACPI 6.5, 6.4.2.9) with the checksum 0, outside a group.
--- The first number says how many bytes at the front belong to an item that began before.
+-- Whether bytes are items that are written by macros, and then the end tag (ACPI 6.5, 6.4.2.9) with the checksum 0, outside a
+-- group. The first number says how many bytes at the front belong to an item that began before.
 abbrev pub is_template : Bool → ℕ → List ℕ → Bool
 is_template inside left [] = false
 is_template inside (suc left) (b ∷ bytes) = is_template inside left bytes
 is_template inside zero (b ∷ bytes) =
     if b == 0x79 then (not inside && is_zero_alone bytes)
-    else (may_follow inside b && is_found (found (item (b ∷ bytes))) && is_template (is_inside inside b) (item_size (b ∷ bytes) - 1) bytes)
+    else (may_follow inside b && is_found (found (item (b ∷ bytes)))
+    && is_template (is_inside inside b) (item_size (b ∷ bytes) - 1) bytes)
 
 -- the brace after a group, on a line at a depth
 abbrev pub group_closes : ℕ → Bool → List ℕ
@@ -182,7 +184,8 @@ items_text d inside left [] = []
 items_text d inside (suc left) (b ∷ bytes) = items_text d inside left bytes
 items_text d inside zero (b ∷ bytes) =
     if b == 0x79 then []
-    else item_text d inside b (item (b ∷ bytes)) (b ∷ bytes) ++ items_text d (is_inside inside b) (item_size (b ∷ bytes) - 1) bytes
+    else item_text d inside b (item (b ∷ bytes)) (b ∷ bytes)
+    ++ items_text d (is_inside inside b) (item_size (b ∷ bytes) - 1) bytes
 
 -- the template of these bytes at a depth
 abbrev pub template_text : ℕ → List ℕ → List ℕ

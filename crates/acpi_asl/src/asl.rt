@@ -37,6 +37,24 @@ const STATEMENTS: Place = Place {
     externals: false,
 };
 
+// Adds terms, if there are any: most lists have none.
+#[cycle(asl)]
+#[inline(always)]
+fn push_any(
+    place: Place,
+    depth: usize,
+    terms: &[Term],
+    text: &mut String,
+) -> Result<Place, AllocError>
+    ensures { IfOk result
+        (λ left. AreWritten place depth (views terms.now) left (string_bytes text.old) (string_bytes text.new)) }
+{
+    match terms {
+        [] => Ok(place),
+        [_, ..] => push_terms(place, depth, terms, text),
+    }
+}
+
 #[cycle(asl)]
 fn push_terms(
     place: Place,
@@ -92,11 +110,12 @@ fn push_whole(
         parts.kind,
         parts.width,
         count,
+        inside,
         depth,
         text,
     )?;
-    let left = push_terms(inside, depth, parts.first, text)?;
-    push_terms(left, depth, parts.others, text)?;
+    let left = push_any(inside, depth, parts.first, text)?;
+    push_any(left, depth, parts.others, text)?;
     push_end(parts.kind, inside.body, depth, text)?;
     Ok(())
 }

@@ -20,7 +20,9 @@ pub fn byte_at(item: &[u8], offset: usize) -> u8
     }
 }
 
-fn shifted(byte: u8, shift: u8) -> u8
+/// A byte without its lowest bits.
+#[inline]
+pub fn shifted(byte: u8, shift: u8) -> u8
     ensures { result ≡ shifted byte shift }
 {
     match shift {

@@ -82,6 +82,7 @@ pub fn push_json_eisa(width: u8, value: u64, text: &mut String) -> Result<(), Al
 }
 
 /// Adds a number in this many bytes that is an id.
+#[inline(never)]
 pub fn push_eisa(width: u8, value: u64, text: &mut String) -> Result<(), AllocError>
     requires { is_eisa width value ≡ true }
     ensures { OnOk result (string_bytes text.new ≡ string_bytes text.old ++ eisa_text value) }

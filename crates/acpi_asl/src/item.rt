@@ -1,7 +1,7 @@
 //! The macros of resource descriptors. A function whose name begins with `push` adds to a text.
 
-ghost use Rattle.std.specs.Prelude.{◌≡◌, ◌+◌, ◌*◌, ◌≤◌, ◌++◌, ◌==◌, true, codes, slice_index_or, if◌then◌else◌, ◌∷◌, []};
-ghost use Rattle.std.specs.Prelude.{length, take, OnOk, string_bytes};
+ghost use Rattle.std.specs.Prelude.{◌≡◌, ℕ, ◌+◌, ◌*◌, ◌≤◌, ◌++◌, ◌==◌, true, codes, slice_index_or, if◌then◌else◌, List, ◌∷◌, []};
+ghost use Rattle.std.specs.Prelude.{length, take, drop, OnOk, string_bytes};
 ghost use Rattle.acpi_asl.specs.Content.{value_of, offset_of, up_to_zero, source_at};
 ghost use Rattle.acpi_asl.specs.Descriptor.{words, facts, descriptors};
 ghost use Rattle.acpi_asl.specs.Number.{hex, string_text};
@@ -14,8 +14,8 @@ use crate::content::{
     value_of,
 };
 use crate::descriptor::{Bits, Offset, Part, WordKind, words};
-use crate::list::{comma, push_tail};
-use crate::macros::{Descriptor, checks, descriptors, macro_word, parts, tail};
+use crate::list::{push_comma, push_tail};
+use crate::macros::{Descriptor, checks_left, descriptors, macro_opening, parts, tail};
 use crate::number::{push_hex, push_string, upper_digit};
 use crate::word::word_in;
 use std::alloc::AllocError;
@@ -91,7 +91,7 @@ fn push_next(
 ) -> Result<(), AllocError>
     ensures { OnOk result (string_bytes text.new ≡ string_bytes text.old ++ (comma first ++ part_text item.now n part)) }
 {
-    text.push_str(comma(first))?;
+    push_comma(first, text)?;
     push_part(item, n, part, text)
 }
 
@@ -114,10 +114,9 @@ fn push_row(
 ) -> Result<(), AllocError>
     ensures { OnOk result (string_bytes text.new ≡ string_bytes text.old ++ row_text (facts descriptor) n item.now) }
 {
-    text.push_str(macro_word(descriptor))?;
-    text.push_str(" (")?;
+    text.push_str(macro_opening(descriptor))?;
     push_parts(item, n, parts(descriptor), text)?;
-    text.push_str(")")?;
+    text.push(')')?;
     push_tail(tail(descriptor), item, text)?;
     Ok(())
 }
@@ -174,21 +173,72 @@ fn parts_fit(item: &[u8], parts: &[Part]) -> bool
     true
 }
 
-fn fits(descriptor: Descriptor, item: &[u8]) -> bool
+// Whether the macro of a descriptor writes an item that begins with this tag.
+fn fits(descriptor: Descriptor, tag: u8, item: &[u8]) -> bool
+    requires { tag ≡ slice_index_or item.now 0 0 }
     ensures { result ≡ fits (facts descriptor) item.now }
 {
-    all_hold(item, checks(descriptor)) && parts_fit(item, parts(descriptor))
+    match checks_left(descriptor, tag) {
+        Some(checks) => all_hold(item, checks) && parts_fit(item, parts(descriptor)),
+        None => false,
+    }
+}
+
+// Where the descriptors begin that can have a tag: what is before them can't.
+fn start(tag: u8) -> usize
+    ensures within { result ≤ 40 }
+    ensures found { (item : List ℕ) → slice_index_or item 0 0 ≡ tag
+        → found_in (drop result descriptors) item ≡ found_in descriptors item }
+{
+    match tag {
+        0x23 => 1,
+        0x2a => 2,
+        0x30 => 3,
+        0x31 => 4,
+        0x38 => 5,
+        0x47 => 6,
+        0x4b => 7,
+        0x55 => 8,
+        0x81 => 10,
+        0x82 => 11,
+        0x84 => 12,
+        0x85 => 13,
+        0x86 => 14,
+        0x87 => 15,
+        0x88 => 18,
+        0x89 => 21,
+        0x8a => 22,
+        0x8b => 25,
+        0x8c => 28,
+        0x8d => 30,
+        0x8e => 31,
+        0x8f => 37,
+        0x90 => 38,
+        0x91 => 39,
+        0x92 => 40,
+        _ => 0,
+    }
 }
 
 fn found_in(descriptors: &[Descriptor], item: &[u8]) -> Option<Descriptor>
     ensures { result ≡ found_in descriptors.now item.now }
 {
+    let tag = byte_at(item, 0);
     'descriptors: for descriptor in descriptors {
-        if fits(*descriptor, item) {
+        if fits(*descriptor, tag, item) {
             return Some(*descriptor);
         }
     }
     None
+}
+
+// The first descriptor whose macro writes an item that begins with this tag.
+fn found_from(tag: u8, item: &[u8]) -> Option<Descriptor>
+    requires { tag ≡ slice_index_or item.now 0 0 }
+    ensures { result ≡ found_in descriptors item.now }
+{
+    let (_, rest) = descriptors().split_at(start(tag));
+    found_in(rest, item)
 }
 
 // The descriptor whose macro writes an item.
@@ -197,7 +247,7 @@ fn found(item: &[u8]) -> Option<Descriptor>
     ensures { result ≡ found item.now }
 {
     if item.len() == size_of(item) {
-        return found_in(descriptors(), item);
+        return found_from(byte_at(item, 0), item);
     }
     None
 }

@@ -11,11 +11,14 @@ use crate::descriptor::{Braces, Offset};
 use crate::number::{push_decimal, push_hex};
 use std::alloc::AllocError;
 
-/// The comma before an argument.
-pub fn comma(first: bool) -> &'static str
-    ensures { result.now ≡ comma first }
+/// Adds the comma before an argument that isn't the first.
+pub fn push_comma(first: bool, text: &mut String) -> Result<(), AllocError>
+    ensures { OnOk result (string_bytes text.new ≡ string_bytes text.old ++ comma first) }
 {
-    if first { "" } else { ", " }
+    if first {
+        return Ok(());
+    }
+    text.push_str(", ")
 }
 
 fn push_channel(first: bool, i: u8, is_set: bool, text: &mut String) -> Result<(), AllocError>
@@ -24,7 +27,7 @@ fn push_channel(first: bool, i: u8, is_set: bool, text: &mut String) -> Result<(
     if !is_set {
         return Ok(());
     }
-    text.push_str(comma(first))?;
+    push_comma(first, text)?;
     push_decimal(u64::from(i), text)
 }
 
@@ -42,6 +45,9 @@ fn push_channels(
     if left == 0 {
         return Ok(());
     }
+    if mask == 0 {
+        return Ok(());
+    }
     let is_set = mask % 2 == 1;
     push_channel(first, i, is_set, text)?;
     push_channels(first && !is_set, i + 1, left - 1, mask / 2, text)
@@ -51,7 +57,7 @@ fn push_next_dword(first: bool, bytes: &[u8], text: &mut String) -> Result<(), A
     ensures { OnOk result (string_bytes text.new ≡ string_bytes text.old
         ++ (comma first ++ (codes "0x" ++ digits_at 4 0 bytes.now))) }
 {
-    text.push_str(comma(first))?;
+    push_comma(first, text)?;
     push_number_at(4, 0, bytes, text)
 }
 
@@ -71,7 +77,7 @@ fn push_next_pair(first: bool, bytes: &[u8], text: &mut String) -> Result<(), Al
     ensures { OnOk result (string_bytes text.new ≡ string_bytes text.old
         ++ (comma first ++ (codes "0x" ++ digits_at 2 0 bytes.now))) }
 {
-    text.push_str(comma(first))?;
+    push_comma(first, text)?;
     push_number_at(2, 0, bytes, text)
 }
 
@@ -90,7 +96,7 @@ fn push_pairs(first: bool, bytes: &[u8], text: &mut String) -> Result<(), AllocE
 fn push_listed(first: bool, byte: u8, text: &mut String) -> Result<(), AllocError>
     ensures { OnOk result (string_bytes text.new ≡ string_bytes text.old ++ (comma first ++ hex 1 byte)) }
 {
-    text.push_str(comma(first))?;
+    push_comma(first, text)?;
     push_hex(1, u64::from(byte), text)
 }
 
@@ -144,5 +150,5 @@ pub fn push_tail(tail: Braces, item: &[u8], text: &mut String) -> Result<(), All
     }
     text.push_str(" {")?;
     push_list(tail, item, text)?;
-    text.push_str("}")
+    text.push('}')
 }

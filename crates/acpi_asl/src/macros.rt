@@ -1,9 +1,11 @@
-//! The macros of resource descriptors, as data: their arguments, what holds of each descriptor that they make, and the lists in braces
-//! (ACPI 6.5, 6.4 and 19.2.8).
+//! The macros of resource descriptors, as data: their arguments, what holds of each descriptor that they make, and the lists in
+//! braces (ACPI 6.5, 6.4 and 19.2.8).
 
-ghost use Rattle.std.specs.Prelude.{◌≡◌};
+ghost use Rattle.std.specs.Prelude.{◌≡◌, ◌++◌, ℕ, List, false, codes, slice_index_or, MatchOption};
+ghost use Rattle.acpi_asl.specs.Content.{all_hold};
 ghost use Rattle.acpi_asl.specs.Descriptor.{facts, descriptors};
 
+use crate::content::shifted;
 use crate::descriptor::{Bits, Braces, Check, Offset, Part, WordKind};
 
 /// The descriptors that have macros here. The buses with a number are those of revision 2.
@@ -238,8 +240,9 @@ macro_rules! space_checks {
 
 // ---- pins
 
-// Between the pins, the names and the end, where a vendor's data would begin, there is nothing else: the pins begin after `n` bytes,
-// and the two bytes at `table` say so. So do those at `name` for the name, and those at `vendor` for the vendor's data, which is empty.
+// Between the pins, the names and the end, where a vendor's data would begin, there is nothing else: the pins begin after `n`
+// bytes, and the two bytes at `table` say so. So do those at `name` for the name, and those at `vendor` for the vendor's data,
+// which is empty.
 macro_rules! pins {
     ([$($front:expr),*] $n:literal, $table:literal, $name:literal, $vendor:literal) => {
         &[
@@ -374,7 +377,7 @@ macro_rules! uart_parts {
 
 // A row for each descriptor: its macro, the macro's arguments, what is checked, and the list in braces.
 macro_rules! descriptors {
-    ($wanted:ident of $subject:expr) => {
+    ($wanted:tt of $subject:expr) => {
         look_up! { $wanted $subject;
             IrqNoFlags { "IRQNoFlags", &[], &[byte!(0, 0x22)], Braces::Irqs }
             Irq {
@@ -656,6 +659,11 @@ macro_rules! look_up {
             $(Descriptor::$name => $word,)*
         }
     };
+    (opening $subject:expr; $($name:ident { $word:literal, $parts:expr, $checks:expr, $braces:expr })*) => {
+        match $subject {
+            $(Descriptor::$name => concat!($word, " ("),)*
+        }
+    };
     (parts $subject:expr; $($name:ident { $word:literal, $parts:expr, $checks:expr, $braces:expr })*) => {
         match $subject {
             $(Descriptor::$name => $parts,)*
@@ -664,6 +672,11 @@ macro_rules! look_up {
     (checks $subject:expr; $($name:ident { $word:literal, $parts:expr, $checks:expr, $braces:expr })*) => {
         match $subject {
             $(Descriptor::$name => $checks,)*
+        }
+    };
+    ((checks left with $tag:ident) $subject:expr; $($name:ident { $word:literal, $parts:expr, $checks:expr, $braces:expr })*) => {
+        match $subject {
+            $(Descriptor::$name => left_with($checks, $tag),)*
         }
     };
     (braces $subject:expr; $($name:ident { $word:literal, $parts:expr, $checks:expr, $braces:expr })*) => {
@@ -687,6 +700,13 @@ pub fn macro_word(descriptor: Descriptor) -> &'static str
     descriptors!(word of descriptor)
 }
 
+/// The macro of a descriptor, and the parenthesis after it.
+pub fn macro_opening(descriptor: Descriptor) -> &'static str
+    ensures { result.now ≡ (facts descriptor).macro ++ codes " (" }
+{
+    descriptors!(opening of descriptor)
+}
+
 /// The arguments of its macro.
 pub fn parts(descriptor: Descriptor) -> &'static [Part]
     ensures { result.now ≡ (facts descriptor).parts }
@@ -699,6 +719,33 @@ pub fn checks(descriptor: Descriptor) -> &'static [Check]
     ensures { result.now ≡ (facts descriptor).checks }
 {
     descriptors!(checks of descriptor)
+}
+
+// The checks that are left of items that begin with a byte, or none if the first fails.
+#[inline(always)]
+fn left_with(checks: &'static [Check], tag: u8) -> Option<&'static [Check]>
+    ensures { (item : List ℕ) → slice_index_or item 0 0 ≡ tag → MatchOption result (all_hold item checks.now ≡ false)
+        (λ rest. all_hold item checks.now ≡ all_hold item rest.now) }
+{
+    match checks {
+        [Check::Is(bits, value), rest @ ..] if bits.offset == 0 && bits.size == 8 => {
+            if shifted(tag, bits.shift) == *value {
+                Some(rest)
+            } else {
+                None
+            }
+        }
+        _ => Some(checks),
+    }
+}
+
+/// What is left to be checked of an item that begins with a byte, or none if the macro makes no such item.
+pub fn checks_left(descriptor: Descriptor, tag: u8) -> Option<&'static [Check]>
+    ensures { (item : List ℕ) → slice_index_or item 0 0 ≡ tag
+        → MatchOption result (all_hold item (facts descriptor).checks ≡ false) (λ rest.
+        all_hold item (facts descriptor).checks ≡ all_hold item rest.now) }
+{
+    descriptors!((checks left with tag) of descriptor)
 }
 
 /// The list in braces after its macro.

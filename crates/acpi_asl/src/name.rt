@@ -1,11 +1,11 @@
 //! Names of ASL (ACPI 6.5, 19.2.2). A function whose name begins with `push` adds to a text.
 
 ghost use Rattle.std.specs.Prelude.{◌≡◌, map, ◌++◌, true, false, OnOk, string_bytes};
-ghost use Rattle.acpi_read.specs.Lines.{segments_of};
 ghost use Rattle.acpi_read.specs.Report.{printable};
 ghost use Rattle.acpi_asl.specs.Name.{fourth, third, second, is_among, is_kept, pair_text, dot_text, segment_text};
 ghost use Rattle.acpi_asl.specs.Name.{segments_text, asl_name};
 
+use acpi_read::report::words::segments_of;
 use acpi_term::name_string::NameString;
 use std::alloc::AllocError;
 
@@ -98,10 +98,25 @@ fn push_segment(a: u8, b: u8, c: u8, d: u8, text: &mut String) -> Result<(), All
     push_second(b, c, d, text)
 }
 
-fn dot(follows: bool) -> &'static str
-    ensures { result.now ≡ dot_text follows }
+fn push_dot(follows: bool, text: &mut String) -> Result<(), AllocError>
+    ensures { OnOk result (string_bytes text.new ≡ string_bytes text.old ++ dot_text follows) }
 {
-    if follows { "." } else { "" }
+    if !follows {
+        return Ok(());
+    }
+    text.push('.')
+}
+
+// Adds segments after another, if there are any.
+#[cycle(segments)]
+#[inline(always)]
+fn push_further_segments(segments: &[u8], text: &mut String) -> Result<(), AllocError>
+    ensures { OnOk result (string_bytes text.new ≡ string_bytes text.old ++ segments_text true segments.now) }
+{
+    match segments {
+        [] => Ok(()),
+        [_, ..] => push_segments(true, segments, text),
+    }
 }
 
 /// Adds segments, with a dot before the first if it follows another.
@@ -112,22 +127,10 @@ pub fn push_segments(follows: bool, segments: &[u8], text: &mut String) -> Resul
     let [a, b, c, d, rest @ ..] = segments else {
         return Ok(());
     };
-    text.push_str(dot(follows))?;
+    push_dot(follows, text)?;
     push_segment(*a, *b, *c, *d, text)?;
-    push_segments(true, rest, text)?;
+    push_further_segments(rest, text)?;
     Ok(())
-}
-
-/// The segments of a path, without the prefix that counts them. A null path has none.
-pub fn segments_of(path: &[u8]) -> &[u8]
-    ensures { result.now ≡ segments_of path.now }
-{
-    match path {
-        [0x2e | 0x00, segments @ ..] => segments,
-        [0x2f, _, segments @ ..] => segments,
-        [0x2f] => &[],
-        _ => path,
-    }
 }
 
 fn push_name_bytes(bytes: &[u8], text: &mut String) -> Result<(), AllocError>

@@ -39,9 +39,11 @@ fn is_long(parts: Parts<'_>) -> bool
         (length (content (layout (head_of parts.entry.kind) parts.entry.width n)
         (spelling (views (parts.entry.first.now ++ parts.entry.others.now))))) }
 {
-    after_content(least_content(parts.width), parts) > 0
+    let least = least_content(parts.width);
+    least > 0 && after_content(least, parts) > 0
 }
 
+#[inline(never)]
 fn push_length_text(width: u8, text: &mut String) -> Result<(), AllocError>
     ensures { OnOk result (string_bytes text.new ≡ string_bytes text.old ++ length_text width) }
 {
@@ -81,13 +83,19 @@ fn is_number_first(first: &[Term], others: &[Term]) -> bool
     }
 }
 
-fn head_note(kind: Kind<'_>, first: &[Term], others: &[Term]) -> &'static str
-    ensures { result.now ≡ head_note (head_of kind.entry) (views (first.now ++ others.now)) }
+fn push_head_note(
+    kind: Kind<'_>,
+    first: &[Term],
+    others: &[Term],
+    text: &mut String,
+) -> Result<(), AllocError>
+    ensures { OnOk result (string_bytes text.new ≡ string_bytes text.old
+        ++ head_note (head_of kind.entry) (views (first.now ++ others.now))) }
 {
     match kind {
-        Kind::VarPackage if is_number_first(first, others) => "/*= VarPackage */ ",
-        Kind::External(..) => "/*= Alone */ ",
-        _ => "",
+        Kind::VarPackage if is_number_first(first, others) => text.push_str("/*= VarPackage */ "),
+        Kind::External(..) => text.push_str("/*= Alone */ "),
+        _ => Ok(()),
     }
 }
 
@@ -126,5 +134,5 @@ pub fn push_note(parts: Parts<'_>, text: &mut String) -> Result<(), AllocError>
         (views (parts.entry.first.now ++ parts.entry.others.now))) }
 {
     push_length_note(parts, text)?;
-    text.push_str(head_note(parts.kind, parts.first, parts.others))
+    push_head_note(parts.kind, parts.first, parts.others, text)
 }

@@ -81,9 +81,13 @@ pub fn push_short_hex(value: u64, text: &mut String) -> Result<(), AllocError>
 }
 
 /// Adds a decimal number.
+#[tactic(auto, using(std::proofs::lemmas::Fmt::decimal_digit))]
 pub fn push_decimal(n: u64, text: &mut String) -> Result<(), AllocError>
     ensures { OnOk result (string_bytes text.new ≡ string_bytes text.old ++ decimal n) }
 {
+    if n < 10 {
+        return text.push(upper_digit(n as u8));
+    }
     write!(text, "{n}")
 }
 

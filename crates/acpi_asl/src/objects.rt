@@ -4,62 +4,22 @@
 ghost use Rattle.std.specs.Prelude.{◌≡◌, ◌≤◌, ◌++◌, ◌∷◌, [], codes, map, length, OnOk, IfOk, string_bytes};
 ghost use Rattle.std.specs.Option.{option_map};
 ghost use Rattle.acpi_term.specs.View.{entry_view, head_of, view, views, single};
+ghost use Rattle.acpi_terms_text.specs.Path.{path_in};
 ghost use Rattle.acpi_asl.specs.Namespace.{has_id};
-ghost use Rattle.acpi_asl.specs.Objects.{parent, path_in, path_member, kind_member, plain_object, arguments_member};
+ghost use Rattle.acpi_asl.specs.Objects.{path_member, kind_member, plain_object, arguments_member};
 ghost use Rattle.acpi_asl.specs.Objects.{method_object, number_or_id, value_of, value_member, name_object, field_objects};
 ghost use Rattle.acpi_asl.specs.Objects.{made_object, objects_of, scope_in, objects, without_comma, signature_member};
 ghost use Rattle.acpi_asl.specs.Objects.{length_member, table_front, table_end, objects_text};
 
 use crate::eisa::{is_eisa, push_json_eisa};
-use crate::name::{push_segments, segments_of};
+use crate::name::push_segments;
 use crate::namespace::{has_id, has_inside, last_operand, made_by};
 use crate::number::{push_decimal, push_json_number, push_json_string};
 use acpi_term::apart::{Kind, parts_of};
 use acpi_term::name_string::NameString;
 use acpi_term::term::{Term, TermEntry};
+use acpi_terms_text::path::{joined, path_in};
 use std::alloc::{AllocError, Global};
-
-// ---- paths
-
-// Returns the path of the scope around a scope.
-fn parent(scope: &[u8]) -> &[u8]
-    ensures { result.now ≡ parent scope.now }
-{
-    &scope[..scope.len().saturating_sub(4)]
-}
-
-// Returns segments after those of a scope.
-fn joined(alloc: Global, scope: &[u8], segments: &[u8]) -> Result<Vec<u8>, AllocError>
-    ensures { IfOk result (λ path. path.items ≡ scope.now ++ segments.now) }
-{
-    let mut path = Vec::from_slice(alloc, scope)?;
-    path.extend_from_slice(segments)?;
-    Ok(path)
-}
-
-// Returns the path of a name in a scope.
-fn path_in(alloc: Global, scope: &[u8], name: &[u8]) -> Result<Vec<u8>, AllocError>
-    ensures { IfOk result (λ path. path.items ≡ path_in scope.now name.now) }
-{
-    let mut around = scope;
-    let mut rest = name;
-    'parents: while let [0x5e, more @ ..] = rest {
-        around = parent(around);
-        rest = more;
-    }
-    match rest {
-        [] => Vec::from_slice(alloc, around),
-        [0x5c, more @ ..] => Vec::from_slice(alloc, segments_of(more)),
-        _ => joined(alloc, around, segments_of(rest)),
-    }
-}
-
-// Returns the path of a name in a scope.
-fn path_of(alloc: Global, scope: &[u8], name: &NameString) -> Result<Vec<u8>, AllocError>
-    ensures { IfOk result (λ path. path.items ≡ path_in scope.now name.now) }
-{
-    path_in(alloc, scope, name.as_bytes())
-}
 
 // ---- the object of a name
 
@@ -99,7 +59,7 @@ fn push_object(
     ensures { OnOk result (string_bytes text.new ≡ string_bytes text.old
         ++ plain_object (path_in scope.now name.now) word.now) }
 {
-    let path = path_of(alloc, scope, name)?;
+    let path = path_in(alloc, scope, name)?;
     push_plain(&path, word, text)
 }
 
@@ -177,7 +137,7 @@ fn push_method(
     ensures { OnOk result (string_bytes text.new ≡ string_bytes text.old
         ++ method_object (path_in scope.now name.now) args) }
 {
-    let path = path_of(alloc, scope, name)?;
+    let path = path_in(alloc, scope, name)?;
     push_method_at(&path, args, text)
 }
 
@@ -275,7 +235,7 @@ fn push_name(
     ensures { OnOk result (string_bytes text.new ≡ string_bytes text.old ++ name_object (path_in scope.now name.now)
         (value_member (has_id name.now) (views (first.now ++ others.now)))) }
 {
-    let path = path_of(alloc, scope, name)?;
+    let path = path_in(alloc, scope, name)?;
     push_name_at(&path, has_id(name), first, others, text)
 }
 
@@ -339,7 +299,7 @@ fn scope_in(alloc: Global, scope: &[u8], kind: Kind<'_>) -> Result<Vec<u8>, Allo
         | Kind::Device(name)
         | Kind::Processor(name, _, _, _)
         | Kind::ThermalZone(name)
-        | Kind::PowerResource(name, _, _) => path_of(alloc, scope, name),
+        | Kind::PowerResource(name, _, _) => path_in(alloc, scope, name),
         _ => Vec::from_slice(alloc, scope),
     }
 }

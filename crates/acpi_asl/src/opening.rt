@@ -15,7 +15,7 @@ ghost use Rattle.acpi_asl.specs.Word.{keyword_text};
 
 use crate::name::push_name;
 use crate::number::{push_decimal, push_hex, push_number, push_short_hex, push_string};
-use crate::place::{Place, place_of, push_opened};
+use crate::place::{Place, push_opened};
 use crate::word::{Keyword, operator_word, push_keyword, serialize_word};
 use acpi_term::apart::Kind;
 use acpi_term::name_string::NameString;
@@ -377,10 +377,59 @@ fn push_begun(
     push_own(kind, count, text)
 }
 
-fn end_of(parentheses: bool) -> &'static str
-    ensures { result.now ≡ (if parentheses then codes ")" else []) }
+#[tactic(auto, using(acpi_read::proofs::Texts::after_two))]
+#[inline(never)]
+fn push_any_head(
+    statement: bool,
+    kind: Kind<'_>,
+    width: u8,
+    count: usize,
+    text: &mut String,
+) -> Result<(), AllocError>
+    ensures { OnOk result (string_bytes text.new ≡ string_bytes text.old
+        ++ (head_word (head_of kind.entry) width ++ begun statement (head_of kind.entry) count)) }
 {
-    if parentheses { ")" } else { "" }
+    push_word(kind, width, text)?;
+    push_begun(statement, kind, count, text)
+}
+
+// Adds the word of a term, and what stands in its parentheses before its operands. The most frequent of those with a name are
+// written with fewer calls.
+#[inline(always)]
+fn push_head(
+    statement: bool,
+    kind: Kind<'_>,
+    width: u8,
+    count: usize,
+    text: &mut String,
+) -> Result<(), AllocError>
+    ensures { OnOk result (string_bytes text.new ≡ string_bytes text.old
+        ++ (head_word (head_of kind.entry) width ++ begun statement (head_of kind.entry) count)) }
+{
+    match kind {
+        Kind::Name(name) => {
+            text.push_str("Name (")?;
+            push_name(name, text)
+        }
+        Kind::Device(name) => {
+            text.push_str("Device (")?;
+            push_name(name, text)
+        }
+        Kind::Scope(name) => {
+            text.push_str("Scope (")?;
+            push_name(name, text)
+        }
+        _ => push_any_head(statement, kind, width, count, text),
+    }
+}
+
+fn push_end(parentheses: bool, text: &mut String) -> Result<(), AllocError>
+    ensures { OnOk result (string_bytes text.new ≡ string_bytes text.old ++ (if parentheses then codes ")" else [])) }
+{
+    if !parentheses {
+        return Ok(());
+    }
+    text.push(')')
 }
 
 fn push_ended(
@@ -395,26 +444,28 @@ fn push_ended(
     if inside.arguments > 0 {
         return Ok(());
     }
-    text.push_str(end_of(parentheses))?;
+    push_end(parentheses, text)?;
     push_opened(inside.body, depth, text)
 }
 
-/// Adds what stands before the children of a term.
-#[tactic(auto, using(acpi_read::proofs::Texts::after_three))]
+/// Adds what stands before the children of a term, which begin in the place `inside`.
+#[tactic(auto, using(acpi_read::proofs::Texts::after_two))]
+#[inline(always)]
 pub fn push_opening(
     statement: bool,
     kind: Kind<'_>,
     width: u8,
     count: usize,
+    inside: Place,
     depth: usize,
     text: &mut String,
 ) -> Result<(), AllocError>
+    requires arguments { inside.arguments ≡ (place (head_of kind) count).arguments }
+    requires body { inside.body ≡ (place (head_of kind) count).body }
     ensures { OnOk result (string_bytes text.new ≡ string_bytes text.old
         ++ opening statement (head_of kind.entry) width count depth) }
 {
     let parentheses = has_parentheses(statement, kind, count);
-    let inside = place_of(kind, count);
-    push_word(kind, width, text)?;
-    push_begun(statement, kind, count, text)?;
+    push_head(statement, kind, width, count, text)?;
     push_ended(parentheses, inside, depth, text)
 }

@@ -1,14 +1,15 @@
 //! Where terms stand in the text of another: in its parentheses, or in its braces.
 
-ghost use Rattle.std.specs.Prelude.{◌≡◌, ◌++◌, IfOk, OnOk, string_bytes};
+ghost use Rattle.std.specs.Prelude.{◌≡◌, ◌++◌, [], codes, if◌then◌else◌, IfOk, OnOk, string_bytes};
 ghost use Rattle.acpi_term.specs.View.{head_of};
-ghost use Rattle.acpi_asl.specs.Place.{last_segment, is_id_name, has_ids, has_uuids, place_in, targets, place, next, has_braces};
+ghost use Rattle.acpi_asl.specs.Place.{is_id_name, has_ids, has_uuids, place_in, targets, place, next, has_braces};
 ghost use Rattle.acpi_asl.specs.Place.{is_elements, is_statements, is_statement, is_null};
 ghost use Rattle.acpi_asl.specs.Place.{is_left_out, spaces, new_line, depth_in, opened, closed, separator, before, after};
 
 use acpi_term::apart::Kind;
 use acpi_term::name_string::NameString;
 use acpi_term::op::Op;
+use acpi_terms_text::path::last_segment;
 use std::alloc::AllocError;
 
 /// What stands in the braces of a term.
@@ -91,6 +92,7 @@ fn in_place(arguments: usize, led: bool, targets: usize, body: Body) -> Place
 }
 
 /// Where the children of a term begin, if there are this many.
+#[inline(always)]
 pub fn place_of(kind: Kind<'_>, count: usize) -> Place
     ensures { result ≡ place (head_of kind.entry) count }
 {
@@ -116,12 +118,6 @@ pub fn place_of(kind: Kind<'_>, count: usize) -> Place
         | Kind::Else => in_place(0, false, 0, Body::Statements),
         _ => in_place(0, false, 0, Body::Absent),
     }
-}
-
-fn last_segment(name: &[u8]) -> &[u8]
-    ensures { result.now ≡ last_segment name.now }
-{
-    &name[name.len().saturating_sub(4)..]
 }
 
 fn is_id_name(name: &NameString) -> bool
@@ -236,6 +232,21 @@ pub fn is_left_out(place: Place, kind: Kind<'_>, width: u8) -> bool
 pub fn push_line(depth: usize, text: &mut String) -> Result<(), AllocError>
     ensures { OnOk result (string_bytes text.new ≡ string_bytes text.old ++ new_line depth) }
 {
+    match depth {
+        0 => text.push('\n'),
+        1 => text.push_str("\n    "),
+        2 => text.push_str("\n        "),
+        3 => text.push_str("\n            "),
+        4 => text.push_str("\n                "),
+        5 => text.push_str("\n                    "),
+        6 => text.push_str("\n                        "),
+        _ => push_deep_line(depth, text),
+    }
+}
+
+fn push_deep_line(depth: usize, text: &mut String) -> Result<(), AllocError>
+    ensures { OnOk result (string_bytes text.new ≡ string_bytes text.old ++ new_line depth) }
+{
     text.push('\n')?;
     push_spaces(depth, text)
 }
@@ -269,7 +280,7 @@ pub fn push_opened(body: Body, depth: usize, text: &mut String) -> Result<(), Al
         return Ok(());
     }
     push_line(depth, text)?;
-    text.push_str("{")
+    text.push('{')
 }
 
 /// Ends them.
@@ -280,23 +291,33 @@ pub fn push_closed(body: Body, depth: usize, text: &mut String) -> Result<(), Al
         return Ok(());
     }
     push_line(depth, text)?;
-    text.push_str("}")
+    text.push('}')
 }
 
-fn separator(place: Place, left_out: bool) -> &'static str
-    ensures { result.now ≡ separator place left_out }
+// An empty text isn't added, since this takes time, too.
+fn push_separator(place: Place, left_out: bool, text: &mut String) -> Result<(), AllocError>
+    ensures { OnOk result (string_bytes text.new ≡ string_bytes text.old ++ separator place left_out) }
 {
     if !place.led {
-        return "";
+        return Ok(());
     }
-    if place.arguments == 0 {
-        return if is_elements(place.body) { "," } else { "" };
+    if place.arguments > 0 {
+        return push_argument_comma(left_out && place.arguments == 1, text);
     }
-    if left_out && place.arguments == 1 {
-        ""
+    if is_elements(place.body) {
+        text.push(',')
     } else {
-        ", "
+        Ok(())
     }
+}
+
+fn push_argument_comma(left_out: bool, text: &mut String) -> Result<(), AllocError>
+    ensures { OnOk result (string_bytes text.new ≡ string_bytes text.old ++ (if left_out then [] else codes ", ")) }
+{
+    if left_out {
+        return Ok(());
+    }
+    text.push_str(", ")
 }
 
 /// Adds what stands before a term at the depth `inner` in a place of a term at `depth`.
@@ -310,7 +331,7 @@ pub fn push_before(
     requires { inner ≡ depth_in place depth }
     ensures { OnOk result (string_bytes text.new ≡ string_bytes text.old ++ before place left_out depth) }
 {
-    text.push_str(separator(place, left_out))?;
+    push_separator(place, left_out, text)?;
     if place.arguments > 0 {
         return Ok(());
     }
@@ -324,6 +345,6 @@ pub fn push_after(place: Place, depth: usize, text: &mut String) -> Result<(), A
     if place.arguments != 1 {
         return Ok(());
     }
-    text.push_str(")")?;
+    text.push(')')?;
     push_opened(place.body, depth, text)
 }

@@ -88,10 +88,13 @@ fn push_entry(at: u64, after: u64, entry: &TermEntry, text: &mut String) -> Resu
     }
 }
 
-fn row_comma(first: bool) -> &'static str
-    ensures { result.now ≡ row_comma first }
+fn push_comma(first: bool, text: &mut String) -> Result<(), AllocError>
+    ensures { OnOk result (string_bytes text.new ≡ string_bytes text.old ++ row_comma first) }
 {
-    if first { "" } else { "," }
+    if first {
+        return Ok(());
+    }
+    text.push(',')
 }
 
 #[tactic(auto, using(acpi_read::proofs::Texts::after_four))]
@@ -107,12 +110,13 @@ fn push_row(
     ensures { OnOk result (string_bytes text.new ≡ string_bytes text.old
         ++ (row_comma first ++ new_line depth ++ entry_note (entry_view entry.now) ++ entry_text at (entry_view entry.now))) }
 {
-    text.push_str(row_comma(first))?;
+    push_comma(first, text)?;
     push_line(depth, text)?;
     push_entry_note(entry, text)?;
     push_entry(at, after, entry, text)
 }
 
+#[inline(never)]
 fn push_entries(depth: usize, entries: &[TermEntry], text: &mut String) -> Result<(), AllocError>
     ensures { OnOk result (string_bytes text.new ≡ string_bytes text.old
         ++ entries_text depth true 0 (map entry_view entries.now)) }
@@ -132,9 +136,9 @@ fn push_entries(depth: usize, entries: &[TermEntry], text: &mut String) -> Resul
 fn push_byte_lead(depth: usize, index: usize, text: &mut String) -> Result<(), AllocError>
     ensures { OnOk result (string_bytes text.new ≡ string_bytes text.old ++ byte_lead depth index) }
 {
-    text.push_str(row_comma(index == 0))?;
+    push_comma(index == 0, text)?;
     if index % 8 != 0 {
-        return text.push_str(" ");
+        return text.push(' ');
     }
     push_line(depth, text)
 }
@@ -148,6 +152,7 @@ fn push_byte(depth: usize, index: usize, byte: u8, text: &mut String) -> Result<
 }
 
 /// Adds bytes in rows of eight, each row on a line of this depth.
+#[inline(never)]
 pub fn push_bytes(depth: usize, bytes: &[u8], text: &mut String) -> Result<(), AllocError>
     ensures { OnOk result (string_bytes text.new ≡ string_bytes text.old ++ bytes_text depth 0 bytes.now) }
 {
@@ -159,6 +164,7 @@ pub fn push_bytes(depth: usize, bytes: &[u8], text: &mut String) -> Result<(), A
 
 // Adds the arguments of a BankField after its value, and its rows.
 #[tactic(auto, using(acpi_read::proofs::Texts::after_four))]
+#[inline(never)]
 fn push_bank_rows(
     access: u8,
     lock: u8,

@@ -7,14 +7,15 @@ ghost use Rattle.acpi_asl.specs.Eisa.{is_eisa, eisa_text};
 ghost use Rattle.acpi_asl.specs.Opening.{opening};
 ghost use Rattle.acpi_asl.specs.Place.{is_null, new_line};
 ghost use Rattle.acpi_asl.specs.Special.{is_external, are_external, is_end, after_first, is_zero_first, is_external_block};
-ghost use Rattle.acpi_asl.specs.Special.{block_note, externals_text, is_shortest, has_size, is_template_buffer, is_uuid, is_id_number};
+ghost use Rattle.acpi_asl.specs.Special.{block_note, externals_text, is_shortest, has_size};
+ghost use Rattle.acpi_asl.specs.Special.{is_template_buffer, is_uuid, is_id_number};
 ghost use Rattle.acpi_asl.specs.Special.{to_uuid, is_unread, is_special, special_text};
 ghost use Rattle.acpi_asl.specs.Template.{template_text};
 
 use crate::eisa::{is_eisa, push_eisa};
 use crate::number::least_bytes;
 use crate::opening::push_opening;
-use crate::place::{Place, is_left_out, is_null, push_line};
+use crate::place::{Place, is_left_out, is_null, place_of, push_line};
 use crate::template::{is_template, push_template};
 use crate::unread::push_unread;
 use acpi_term::apart::{Kind, Parts, parts_of};
@@ -147,7 +148,8 @@ fn push_external(
 {
     let parts = parts_of(term);
     push_lead(first, depth, text)?;
-    push_opening(true, parts.kind, parts.width, 0, depth, text)
+    let inside = place_of(parts.kind, 0);
+    push_opening(true, parts.kind, parts.width, 0, inside, depth, text)
 }
 
 // Adds External statements, each on a line.
@@ -169,6 +171,7 @@ fn push_externals(
 
 // The same for two lists.
 #[tactic(auto, using(crate::proofs::Externals::block_written))]
+#[inline(never)]
 fn push_block(
     depth: usize,
     first: &[Term],
@@ -283,6 +286,7 @@ fn push_special_number(
 }
 
 #[tactic(auto, using(acpi_read::proofs::Texts::after_three))]
+#[inline(never)]
 fn push_to_uuid(bytes: &[u8], text: &mut String) -> Result<(), AllocError>
     ensures { OnOk result (string_bytes text.new ≡ string_bytes text.old ++ to_uuid bytes.now) }
 {

@@ -2,11 +2,13 @@
 
 ghost use Rattle.std.specs.Prelude.{◌≡◌, ◌++◌, ◌∷◌, ◌&&◌, suc, false, length, take, drop, codes, OnOk, string_bytes};
 ghost use Rattle.acpi_asl.specs.Place.{new_line};
-ghost use Rattle.acpi_asl.specs.Template.{item_size, found, is_found, is_zero_alone, begins_group, ends_groups, is_inside, may_follow};
-ghost use Rattle.acpi_asl.specs.Template.{is_template, group_closes, group_opens, front_text, item_text, items_text, template_text};
+ghost use Rattle.acpi_asl.specs.Template.{item_size, found, is_found, is_zero_alone, begins_group, ends_groups};
+ghost use Rattle.acpi_asl.specs.Template.{is_inside, may_follow};
+ghost use Rattle.acpi_asl.specs.Template.{is_template, group_closes, group_opens, front_text, item_text};
+ghost use Rattle.acpi_asl.specs.Template.{items_text, template_text};
 
 use crate::item::{is_known, item_size, push_item};
-use crate::place::push_line;
+use crate::place::{Body, push_closed, push_line, push_opened};
 use std::alloc::AllocError;
 
 fn is_zero_alone(bytes: &[u8]) -> bool
@@ -84,7 +86,7 @@ fn push_end(depth: usize, inside: bool, text: &mut String) -> Result<(), AllocEr
     if !inside {
         return Ok(());
     }
-    push_brace("}", depth, text)
+    push_closed(Body::Rows, depth, text)
 }
 
 // Adds the brace before a group, if this tag begins one.
@@ -94,7 +96,7 @@ fn push_start(depth: usize, tag: u8, text: &mut String) -> Result<(), AllocError
     if !begins_group(tag) {
         return Ok(());
     }
-    push_brace("{", depth, text)
+    push_opened(Body::Rows, depth, text)
 }
 
 // Adds a line deeper than a depth.
@@ -132,7 +134,8 @@ fn push_item_line(
     size: usize,
     text: &mut String,
 ) -> Result<(), AllocError>
-    ensures { OnOk result (string_bytes text.new ≡ string_bytes text.old ++ item_text depth inside tag (take size bytes.now) bytes.now) }
+    ensures { OnOk result (string_bytes text.new ≡ string_bytes text.old
+        ++ item_text depth inside tag (take size bytes.now) bytes.now) }
 {
     push_front(depth, inside, tag, text)?;
     push_item(item(bytes, size), bytes.len(), text)?;
@@ -156,14 +159,8 @@ fn push_items(depth: usize, bytes: &[u8], text: &mut String) -> Result<(), Alloc
     Ok(())
 }
 
-fn push_brace(brace: &str, depth: usize, text: &mut String) -> Result<(), AllocError>
-    ensures { OnOk result (string_bytes text.new ≡ string_bytes text.old ++ (new_line depth ++ brace.now)) }
-{
-    push_line(depth, text)?;
-    text.push_str(brace)
-}
-
 /// Adds the template of these bytes at a depth.
+#[inline(never)]
 pub fn push_template(depth: usize, bytes: &[u8], text: &mut String) -> Result<(), AllocError>
     ensures { OnOk result (string_bytes text.new ≡ string_bytes text.old ++ template_text depth bytes.now) }
 {
@@ -172,8 +169,8 @@ pub fn push_template(depth: usize, bytes: &[u8], text: &mut String) -> Result<()
         return Err(AllocError);
     };
     text.push_str("ResourceTemplate ()")?;
-    push_brace("{", depth, text)?;
+    push_opened(Body::Rows, depth, text)?;
     push_items(inner, bytes, text)?;
-    push_brace("}", depth, text)?;
+    push_closed(Body::Rows, depth, text)?;
     Ok(())
 }

@@ -48,6 +48,7 @@ fn push_cause(error: ReadError, text: &mut String) -> Result<(), AllocError>
 
 /// Adds a comment in place of terms that can't be read: why, and their bytes.
 #[tactic(auto, using(acpi_read::proofs::Texts::after_four))]
+#[inline(never)]
 pub fn push_unread(
     error: ReadError,
     bytes: &[u8],

@@ -33,4 +33,5 @@ place_text (c ∷ word) = codes "at " ++ map printable (c ∷ word) ++ codes ": 
 
 -- what is wrong with a text after this many kept characters
 abbrev pub explained : ℕ → Why → List ℕ → List ℕ
-explained at why text = codes "line " ++ decimal (line_of at text) ++ codes ", " ++ place_text (word_at at (squeezed text)) ++ words why
+explained at why text =
+    codes "line " ++ decimal (line_of at text) ++ codes ", " ++ place_text (word_at at (squeezed text)) ++ words why

@@ -1,11 +1,13 @@
--- The text of ASL without what a compiler skips: white space and comments (ACPI 6.5, 19.2.1). One space is left between two words.
+-- The text of ASL without what a compiler skips: white space and comments (ACPI 6.5, 19.2.1). One space is left between two
+-- words.
 -- Of a comment that begins with `/*=` all is kept.
 use Rattle.std.specs.Prelude.{ℕ, ◌+◌, ◌-◌, nat_le, nat_lt, ◌==◌, ◌&&◌, ◌||◌, Bool, if◌then◌else◌, List, [], ◌∷◌, ◌++◌, length}
 use Rattle.std.specs.Prelude.{take, drop, codes}
 use Rattle.acpi_compile.specs.declared.squeeze.Last.{Last}
 use Rattle.acpi_compile.specs.declared.squeeze.Last.TheVariants.{Mark, Word, Gap}
 use Rattle.acpi_compile.specs.declared.squeeze.State.{State}
-use Rattle.acpi_compile.specs.declared.squeeze.State.TheVariants.{Code, Slash, Line, Opened, Comment, Star, Note, NoteStar, Text, Escape}
+use Rattle.acpi_compile.specs.declared.squeeze.State.TheVariants.{Code, Slash, Line, Opened, Comment, Star, Note, NoteStar}
+use Rattle.acpi_compile.specs.declared.squeeze.State.TheVariants.{Text, Escape}
 
 -- ---- characters
 

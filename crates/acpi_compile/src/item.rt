@@ -271,8 +271,8 @@ fn fixed(alloc: Global, descriptor: Descriptor) -> Result<Vec<u8>, AllocError> {
     Ok(item)
 }
 
-// States the number of bytes of a descriptor: in a small one the bits 0 to 2 of its tag are the number of those after the tag, and
-// in a large one two bytes after the tag are the number of those after them.
+// States the number of bytes of a descriptor: in a small one the bits 0 to 2 of its tag are the number of those after the tag,
+// and in a large one two bytes after the tag are the number of those after them.
 fn set_size(item: &mut [u8]) {
     let size = item.len();
     match item.first() {

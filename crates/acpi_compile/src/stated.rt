@@ -56,14 +56,6 @@ fn is_stated(declared: &[&[u8]], node: &Node<'_>) -> bool {
         && !is_declared(declared, node.word)
 }
 
-fn without_parents(word: &[u8]) -> &[u8] {
-    let mut rest = word;
-    'parents: while let [b'^', more @ ..] = rest {
-        rest = more;
-    }
-    rest
-}
-
 // Adds the numbers of arguments of calls, also within them to a depth.
 #[cycle(called)]
 fn add_called(
@@ -78,7 +70,7 @@ fn add_called(
     };
     'nodes: for node in nodes {
         if is_stated(declared, node) {
-            let name = name(alloc, node.at, without_parents(node.word))?;
+            let name = name(alloc, node.at, node.word)?;
             let count = list_of(&node.arguments).len();
             called.add(name, count.min(7) as u8)?;
         }

@@ -13,3 +13,4 @@ pub mod Truth
 pub mod Compared
 pub mod Order
 pub mod Listed
+pub mod Runs

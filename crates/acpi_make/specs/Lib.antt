@@ -27,3 +27,4 @@ pub mod Template
 pub mod TemplateKnown
 pub mod Step
 pub mod Meaning
+pub mod Run

@@ -18,6 +18,7 @@ pub mod make;
 pub mod notes;
 pub mod own;
 pub mod read;
+mod run;
 pub mod short;
 pub mod signature;
 pub mod state;

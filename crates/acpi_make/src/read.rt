@@ -8,6 +8,7 @@ ghost use Rattle.acpi_make.specs.Step.{IsHalf, GoesToHalf};
 
 use crate::fault::{Fault, MakeError};
 use crate::item::{Cell, Item};
+use crate::run::after_run;
 use crate::state::{State, Step};
 use crate::step::{line_end, step};
 use std::alloc::{AllocError, Global};
@@ -56,9 +57,9 @@ fn act(
     }
 }
 
-/// Returns the parts of a text: its bytes, its headings, the names of its lines, and values by name. The error is that memory ran
-/// out, or what is wrong, and where.
-pub fn read_text(alloc: Global, text: &[u8]) -> Result<Vec<Item>, MakeError>
+// Returns the parts of a text. LLVM simplifies a function before it puts it into its caller, and then once more there, and only
+// then are no states copied by way of memory. So this isn't the body of `read_text`: a step would take twice the instructions.
+fn read_parts(alloc: Global, text: &[u8]) -> Result<Vec<Item>, MakeError>
     ensures { Gives (λ items. items.items) result (parts_of text.now) }
 {
     let mut state = State::Start;
@@ -69,8 +70,16 @@ pub fn read_text(alloc: Global, text: &[u8]) -> Result<Vec<Item>, MakeError>
         let here = rest.len();
         let done = step(here, state, *byte);
         state = act(done, here, &mut number, &mut items)?;
-        rest = more;
+        rest = after_run(state, more);
     }
     act(line_end(0, state), 0, &mut number, &mut items)?;
     Ok(items)
+}
+
+/// Returns the parts of a text: its bytes, its headings, the names of its lines, and values by name. The error is that memory ran
+/// out, or what is wrong, and where.
+pub fn read_text(alloc: Global, text: &[u8]) -> Result<Vec<Item>, MakeError>
+    ensures { Gives (λ items. items.items) result (parts_of text.now) }
+{
+    read_parts(alloc, text)
 }

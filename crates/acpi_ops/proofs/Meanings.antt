@@ -1,34 +1,29 @@
 -- What operators mean.
-use Rattle.std.proofs.Common.{◌≡◌, ℕ, List, [], ◌∷◌, length, None, refl, sym, ap, subst, true}
+use Rattle.std.proofs.Common.{◌≡◌, ℕ, List, [], ◌∷◌, length, None, refl, sym, ap, true}
 use Rattle.acpi_base.specs.Object.{Object, all_of}
 use Rattle.acpi_base.proofs.Lists.{joined_whole}
-use Rattle.acpi_term.specs.declared.mode.Mode.{Mode}
 use Rattle.acpi_term.specs.declared.mode.Mode.TheVariants.{Term}
 use Rattle.acpi_term.specs.declared.op.Op.{Op}
 use Rattle.acpi_term.specs.declared.op.Op.TheVariants.{LNot}
 use Rattle.acpi_term.specs.Tree.{op, one}
+use Rattle.acpi_term.specs.declared.language.Language.{Language}
 use Rattle.acpi_term.specs.declared.language.Language.TheVariants.{Written}
 use Rattle.acpi_term.specs.Language.{has}
-use Rattle.acpi_term.specs.Operator.{Facts, operands, language_of, IsKnown}
-use Rattle.acpi_term.specs.Spelling.{SpellEach, inner}
+use Rattle.acpi_term.specs.Operator.{operands, language_of, IsKnown}
 use Rattle.acpi_term.specs.Row.{row}
 use Rattle.acpi_term.proofs.Rows.{rows_mean, ended_none}
 use Rattle.acpi_ops.specs.Laws.{OperatorMeans, NegationMeans}
 
 takes_so : (o : Op) (n : ℕ) → IsKnown o n → n ≡ operands o
-takes_so o n is = sym (ap (λ (f : Facts). f.operands) is)
+takes_so o n is = sym (ap (λ (x : Language × ℕ). x.1) is)
 
 in_written : (o : Op) (n : ℕ) → IsKnown o n → has Written (language_of o) ≡ true
-in_written o n is = ap (λ (f : Facts). has Written f.language) is
-
-in_terms : (o : Op) (n : ℕ) → IsKnown o n → Term ≡ inner (op o)
-in_terms o n is = sym (ap (λ (f : Facts). f.place) is)
+in_written o n is = ap (λ (x : Language × ℕ). has Written x.0) is
 
 pub operator_means : (o : Op) (objects : List Object) → IsKnown o (length objects) → OperatorMeans o objects
 operator_means o objects n = record {
   spells = λ arity m ts spell whole.
-      let placed : SpellEach arity (inner (op o)) objects ts = subst (λ (k : Mode). SpellEach arity k objects ts) (in_terms o (length objects) n) spell in
-      rows_mean arity m (op o) objects ts (takes_so o (length objects) n) (in_written o (length objects) n) tt placed whole;
+      rows_mean arity m (op o) objects ts (takes_so o (length objects) n) (in_written o (length objects) n) tt spell whole;
 }
 
 -- an object alone is whole only if it is

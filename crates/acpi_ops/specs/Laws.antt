@@ -75,7 +75,7 @@ stands_in test m = is_test Standard m ≡ test
 -- that is written.
 pub record HeadMeans (test : Bool) (h : Head) (objects : List Object) : Type 0 where
   pub spells : (arity : List ℕ → ℕ) (m : Mode) (ts : Terms) → stands_in test m
-      → SpellEachIn (grammar_of Standard arity) (inner h) objects ts → (row h objects).end ≡ None
+      → SpellEachIn (grammar_of Standard arity) (inner Standard h) objects ts → (row h objects).end ≡ None
       → SpellsIn (grammar_of Standard arity) m (row h objects).front
       (one h (writer_width h (length objects) (all_of objects).front) ts)
 

@@ -12,6 +12,7 @@ use Rattle.acpi_term.specs.declared.mode.Mode.{Mode}
 use Rattle.acpi_term.specs.declared.read_error.ReadError.{ReadError}
 use Rattle.acpi_term.specs.declared.mode.Mode.TheVariants.{Term}
 use Rattle.acpi_term.specs.Language.{Grammar}
+use Rattle.acpi_term.specs.declared.language.Language.{Language}
 use Rattle.acpi_term.specs.Tree.{Head, def_package, def_roomy_package, Terms, term, count}
 use Rattle.acpi_term.specs.Spelling.{inner, next}
 use Rattle.acpi_term.specs.Reading.{Fault, Bad, ◌>>=◌, Opened, fills, open_at, Reader, least_of, all_of, assembled, roomed, close, term_at}
@@ -27,7 +28,7 @@ use Rattle.acpi_read.specs.TermStart.{block_head, block_width, first_head, first
 -- ---- one term
 
 module _ (g : Grammar) (d : ℕ) (m : Mode) (bytes : List ℕ) (some : d ≡ 0 → ⊥) where
-  pub opened_is : (o : Opened) → open_at g m bytes ≡ Ok o → term_at g d m bytes ≡ close (term_at g (d - 1)) o
+  pub opened_is : (o : Opened) → open_at g m bytes ≡ Ok o → term_at g d m bytes ≡ close (term_at g (d - 1)) g.language o
   unfolding term_at
   opened_is o opens =
       let n : d ≡ suc (d - 1) = omega arith in
@@ -60,30 +61,30 @@ block_least (blocks.LeveledMethod w name args serialized level) = refl
 block_least (blocks.Processor w name id address size) = refl
 block_least (blocks.ThermalZone w name) = refl
 
-block_mode : (f : Block) → inner (block_head f) ≡ Term
-block_mode (blocks.Scope w name) = refl
-block_mode (blocks.Device w name) = refl
-block_mode (blocks.Method w name args serialized) = refl
-block_mode (blocks.PowerResource w name level order) = refl
-block_mode (blocks.Else w) = refl
-block_mode (blocks.LeveledMethod w name args serialized level) = refl
-block_mode (blocks.Processor w name id address size) = refl
-block_mode (blocks.ThermalZone w name) = refl
+block_mode : (l : Language) (f : Block) → inner l (block_head f) ≡ Term
+block_mode l (blocks.Scope w name) = refl
+block_mode l (blocks.Device w name) = refl
+block_mode l (blocks.Method w name args serialized) = refl
+block_mode l (blocks.PowerResource w name level order) = refl
+block_mode l (blocks.Else w) = refl
+block_mode l (blocks.LeveledMethod w name args serialized level) = refl
+block_mode l (blocks.Processor w name id address size) = refl
+block_mode l (blocks.ThermalZone w name) = refl
 
 pub first_least : (f : FirstAndBlock) → least_of (first_head f) ≡ 1
 first_least (firsts.VarPackage w) = refl
 first_least (firsts.If w) = refl
 first_least (firsts.While w) = refl
 
-module _ (p : Reader) (f : Block) (inside after : List ℕ) where
-  pub block_is : (c : Terms) → all_of p (length inside) Term inside ≡ Ok c → close p (fills (block_head f) (block_width f) inside after) ≡ Ok (block_head f, block_width f, c, after)
+module _ (p : Reader) (l : Language) (f : Block) (inside after : List ℕ) where
+  pub block_is : (c : Terms) → all_of p (length inside) Term inside ≡ Ok c → close p l (fills (block_head f) (block_width f) inside after) ≡ Ok (block_head f, block_width f, c, after)
   unfolding close
-  block_is c read = rw (block_mode f, read) (enough (block_head f) (block_width f) c after (omega (arith, block_least f)))
+  block_is c read = rw (block_mode l f, read) (enough (block_head f) (block_width f) c after (omega (arith, block_least f)))
 
-  pub block_fails : (k : Option Fault) → FailsBy k (all_of p (length inside) Term inside) → FailsBy k (close p (fills (block_head f) (block_width f) inside after))
+  pub block_fails : (k : Option Fault) → FailsBy k (all_of p (length inside) Term inside) → FailsBy k (close p l (fills (block_head f) (block_width f) inside after))
   unfolding close
   block_fails None h = tt
-  block_fails (Some e) h = rw (block_mode f, h) refl
+  block_fails (Some e) h = rw (block_mode l f, h) refl
 
 -- ---- packages with room
 
@@ -133,30 +134,30 @@ module _ (g : Grammar) (d : ℕ) where
   all_within (suc n) (suc k) m (b ∷ bytes) fits le le' = same_after n k m (b ∷ bytes) (term_at g d m (b ∷ bytes)) fits le le' refl (λ rest. all_within n k (next m) rest)
 
   module _ (f : FirstAndBlock) (inside after : List ℕ) where
-    pub first_is_missing : length inside ≡ 0 → close (term_at g d) (fills (first_head f) (first_width f) inside after) ≡ Err Bad
+    pub first_is_missing : length inside ≡ 0 → close (term_at g d) g.language (fills (first_head f) (first_width f) inside after) ≡ Err Bad
     unfolding close all_of assembled
     first_is_missing none =
         let is : inside ≡ [] = nil_from_length inside none in
         rw (is, first_least f) refl
 
-    module _ (mode : Mode) (is : mode ≡ inner (first_head f)) (some : 0 < length inside) where
-      pub first_fails : (k : Option Fault) → FailsBy k (term_at g d mode inside) → FailsBy k (close (term_at g d) (fills (first_head f) (first_width f) inside after))
+    module _ (mode : Mode) (is : mode ≡ inner g.language (first_head f)) (some : 0 < length inside) where
+      pub first_fails : (k : Option Fault) → FailsBy k (term_at g d mode inside) → FailsBy k (close (term_at g d) g.language (fills (first_head f) (first_width f) inside after))
       unfolding close
       first_fails None h = tt
       first_fails (Some e) h = rw (sym is, all_more (term_at g d) (length inside) mode inside some (omega arith), h) refl
 
       module _ (h : Head) (w : ℕ) (c : Terms) (rest : List ℕ) (fits : AreBytes inside) (first : term_at g d mode inside ≡ Ok (h, w, c, rest)) where
-        others_are : all_of (term_at g d) (length inside) (inner (first_head f)) inside ≡ others_of (length rest) mode (h, w, c, rest)
+        others_are : all_of (term_at g d) (length inside) (inner g.language (first_head f)) inside ≡ others_of (length rest) mode (h, w, c, rest)
         others_are =
             let s = term_shrinks g d mode inside (h, w, c, rest) fits first in
             let shorter : length rest < length inside = s.less in
             rw (sym is, all_more (term_at g d) (length inside) mode inside some (omega arith), first) (ap (λ (o : Result Terms Fault). o >>= λ others. Ok (term h w c others)) (all_within (length inside - 1) (length rest) (next mode) rest s.fits (omega (arith, shorter)) (omega arith)))
 
-        pub others_fail : (k : Option Fault) → FailsBy k (all_of (term_at g d) (length rest) (next mode) rest) → FailsBy k (close (term_at g d) (fills (first_head f) (first_width f) inside after))
+        pub others_fail : (k : Option Fault) → FailsBy k (all_of (term_at g d) (length rest) (next mode) rest) → FailsBy k (close (term_at g d) g.language (fills (first_head f) (first_width f) inside after))
         unfolding close
         others_fail None e = tt
         others_fail (Some e) failed = rw (others_are, failed) refl
 
-        pub first_is : (others : Terms) → all_of (term_at g d) (length rest) (next mode) rest ≡ Ok others → close (term_at g d) (fills (first_head f) (first_width f) inside after) ≡ Ok (first_head f, first_width f, term h w c others, after)
+        pub first_is : (others : Terms) → all_of (term_at g d) (length rest) (next mode) rest ≡ Ok others → close (term_at g d) g.language (fills (first_head f) (first_width f) inside after) ≡ Ok (first_head f, first_width f, term h w c others, after)
         unfolding close
         first_is others read = rw (others_are, read) (enough (first_head f) (first_width f) (term h w c others) after (omega (arith, first_least f)))

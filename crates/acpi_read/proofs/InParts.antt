@@ -57,8 +57,8 @@ module _ (g : Grammar) where
   -- ---- what is read whole is read in part
 
   -- a term before others, if its children are read in part wherever they are a list
-  term_grows : (d to : ℕ) (h : Head) (w : ℕ) (c o : Terms) → IsLegal g Term h w (count c) (spelling c) → AreLegal g (inner h) c → depth c < d
-      → (inner h ≡ Term → AreInPart g (d - 1) (to - length (spelling o)) false c) → (inner h ≡ Term → AreInPart g (d - 1) (to - length (spelling o)) true c) → AreInPart g d to false o
+  term_grows : (d to : ℕ) (h : Head) (w : ℕ) (c o : Terms) → IsLegal g Term h w (count c) (spelling c) → AreLegal g (inner g.language h) c → depth c < d
+      → (inner g.language h ≡ Term → AreInPart g (d - 1) (to - length (spelling o)) false c) → (inner g.language h ≡ Term → AreInPart g (d - 1) (to - length (spelling o)) true c) → AreInPart g d to false o
       → AreInPart g d to false (term h w c o)
   term_grows d to (def_scope name) w c o f k deep all first others = (((omega arith, f), all refl), others)
   term_grows d to (def_device name) w c o f k deep all first others = (((omega arith, f), all refl), others)
@@ -77,7 +77,7 @@ module _ (g : Grammar) where
   legal_in_part end d to f deep = (tt, tt)
   legal_in_part (term h w c o) d to f deep =
       let others = (legal_in_part o d to f.2 (omega (arith, deep))).0 in
-      let inside = λ (e : inner h ≡ Term). legal_in_part c (d - 1) (to - length (spelling o)) (subst (λ m. AreLegal g m c) e f.1) (omega (arith, deep)) in (
+      let inside = λ (e : inner g.language h ≡ Term). legal_in_part c (d - 1) (to - length (spelling o)) (subst (λ m. AreLegal g m c) e f.1) (omega (arith, deep)) in (
         term_grows d to h w c o f.0 f.1 (omega (arith, deep)) (λ e. (inside e).0) (λ e. (inside e).1) others,
         (((f.0, f.1, tt), omega (arith, deep)), others),
       )
@@ -93,7 +93,7 @@ module _ (g : Grammar) where
         fits = t.rest_fits;
         shorter = omega (arith, ap length t.parts, length-append front after, some);
         grows = λ others o e.
-            let inside = λ (m : inner h ≡ Term). legal_in_part c (d - 1) (to - length (spelling others)) (subst (λ x. AreLegal g x c) m t.children) (omega (arith, deep)) in
+            let inside = λ (m : inner g.language h ≡ Term). legal_in_part c (d - 1) (to - length (spelling others)) (subst (λ x. AreLegal g x c) m t.children) (omega (arith, deep)) in
             term_grows d to h w c others t.head t.children deep (λ m. (inside m).0) (λ m. (inside m).1) o;
       }
 

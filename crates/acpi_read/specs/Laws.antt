@@ -48,7 +48,7 @@ pub record IsWellFormed (arity : List ℕ → ℕ) (p : Part) : Type 0 where
   pub takes : Takes arity Term p.head (length p.children)
   pub is_standard : IsStandard Written p.head
   pub written : IsWritten p.head
-  pub spell : SpellEach arity (inner p.head) p.children p.terms
+  pub spell : SpellEach arity (inner Written p.head) p.children p.terms
 
 abbrev pub AreWellFormed : (List ℕ → ℕ) → List Part → Type 0
 AreWellFormed arity [] = Unit {0}

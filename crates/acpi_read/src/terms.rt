@@ -10,9 +10,8 @@ mod text;
 
 ghost use Rattle.std.specs.Prelude.{◌≡◌, ◌+◌, ◌-◌, ◌<◌, ◌≤◌, ◌++◌, ◌∷◌, [], length, IfOk, OnOk, IfErr, Some, None};
 ghost use Rattle.acpi_base.specs.Object.{IsOwnEnd};
-ghost use Rattle.acpi_term.specs.Arity.{arity};
+ghost use Rattle.acpi_term.specs.Arity.{arity, grammar_by};
 ghost use Rattle.acpi_term.specs.declared.language.Language.TheVariants.{Standard};
-ghost use Rattle.acpi_term.specs.Language.{grammar_of};
 ghost use Rattle.acpi_term.specs.Operator.{operands};
 ghost use Rattle.acpi_term.specs.Reading.{Bad, follows, fills, packs, rooms, roomed, begins, banks, banked};
 ghost use Rattle.acpi_term.specs.Reading.{counted, all_of, close, term_at};
@@ -51,8 +50,8 @@ struct TermReader<'a> {
 impl<'a> TermReader<'a> {
     // The reader of a list of terms.
     fn new(language: Language, arities: &'a Arities) -> TermReader<'a>
-        ensures reads { reads result ≡ term_at (grammar_of language (arity arities.now)) MAX_DEPTH }
-        ensures grammar { grammar result ≡ grammar_of language (arity arities.now) }
+        ensures reads { reads result ≡ term_at (grammar_by language arities.now) MAX_DEPTH }
+        ensures grammar { grammar result ≡ grammar_by language arities.now }
         ensures depth { result.depth ≡ MAX_DEPTH }
     {
         TermReader {
@@ -114,7 +113,7 @@ fn close<'a>(
     requires alone { IsAlone opened }
     requires place { offset ≤ end }
     ensures gives { Answers (λ x. ((view x.0).0, (view x.0).1, (view x.0).2, x.1.now)) result
-        (close (reads reader.now) (seen opened.entry)) }
+        (close (reads reader.now) reader.now.language (seen opened.entry)) }
     ensures placed { IfErr result (IsPlaced end) }
 {
     match opened {
@@ -157,7 +156,7 @@ fn call<'a>(
 ) -> Result<(Term, &'a [u8]), ReadError>
     requires within { length rest.now ≤ end }
     ensures gives { Answers (λ x. ((view x.0).0, (view x.0).1, (view x.0).2, x.1.now)) result
-        (close (reads reader.now) (follows (call name) 0 count rest.now)) }
+        (close (reads reader.now) reader.now.language (follows (call name) 0 count rest.now)) }
     ensures placed { IfErr result (IsPlaced end) }
 {
     let (args, rest) = several(reader, Mode::Term, count, rest, end)?;
@@ -175,10 +174,16 @@ fn operator<'a>(
 ) -> Result<(Term, &'a [u8]), ReadError>
     requires within { length rest.now ≤ end }
     ensures gives { Answers (λ x. ((view x.0).0, (view x.0).1, (view x.0).2, x.1.now)) result
-        (close (reads reader.now) (follows (op code) 0 (operands code) rest.now)) }
+        (close (reads reader.now) reader.now.language (follows (op code) 0 (operands code) rest.now)) }
     ensures placed { IfErr result (IsPlaced end) }
 {
-    let (operands, rest) = several(reader, code.place(), code.operands(), rest, end)?;
+    let (operands, rest) = several(
+        reader,
+        code.place(reader.language),
+        code.operands(),
+        rest,
+        end,
+    )?;
     Ok((Term::Op { op: code, operands }, rest))
 }
 
@@ -194,7 +199,7 @@ fn region<'a>(
 ) -> Result<(Term, &'a [u8]), ReadError>
     requires within { length rest.now ≤ end }
     ensures gives { Answers (λ x. ((view x.0).0, (view x.0).1, (view x.0).2, x.1.now)) result
-        (close (reads reader.now) (follows (def_op_region name space) 0 2 rest.now)) }
+        (close (reads reader.now) reader.now.language (follows (def_op_region name space) 0 2 rest.now)) }
     ensures placed { IfErr result (IsPlaced end) }
 {
     let alloc = reader.arities.allocator();
@@ -222,7 +227,7 @@ fn define<'a>(
 ) -> Result<(Term, &'a [u8]), ReadError>
     requires within { length rest.now ≤ end }
     ensures gives { Answers (λ x. ((view x.0).0, (view x.0).1, (view x.0).2, x.1.now)) result
-        (close (reads reader.now) (follows (def_name name) 0 1 rest.now)) }
+        (close (reads reader.now) reader.now.language (follows (def_name name) 0 1 rest.now)) }
     ensures placed { IfErr result (IsPlaced end) }
 {
     let (value, rest) = term(reader, Mode::Term, rest, end)?;
@@ -242,7 +247,7 @@ fn fatal<'a>(
 ) -> Result<(Term, &'a [u8]), ReadError>
     requires within { length rest.now ≤ end }
     ensures gives { Answers (λ x. ((view x.0).0, (view x.0).1, (view x.0).2, x.1.now)) result
-        (close (reads reader.now) (follows (def_fatal kind code) 0 1 rest.now)) }
+        (close (reads reader.now) reader.now.language (follows (def_fatal kind code) 0 1 rest.now)) }
     ensures placed { IfErr result (IsPlaced end) }
 {
     let (argument, rest) = term(reader, Mode::Term, rest, end)?;
@@ -268,7 +273,7 @@ fn test<'a>(
 ) -> Result<(Term, &'a [u8]), ReadError>
     requires within { length rest.now ≤ end }
     ensures gives { Answers (λ x. ((view x.0).0, (view x.0).1, (view x.0).2, x.1.now)) result
-        (close (reads reader.now) (follows (match_test code) 0 1 rest.now)) }
+        (close (reads reader.now) reader.now.language (follows (match_test code) 0 1 rest.now)) }
     ensures placed { IfErr result (IsPlaced end) }
 {
     let (operand, rest) = term(reader, Mode::Term, rest, end)?;
@@ -288,7 +293,7 @@ fn block<'a>(
 ) -> Result<(Term, &'a [u8]), ReadError>
     requires within { length inside.now + length after.now ≤ end }
     ensures gives { Answers (λ x. ((view x.0).0, (view x.0).1, (view x.0).2, x.1.now)) result
-        (close (reads reader.now)
+        (close (reads reader.now) reader.now.language
         (fills (block_head head) (block_width head) inside.now after.now)) }
     ensures placed { IfErr result (IsPlaced end) }
 {
@@ -309,7 +314,7 @@ fn first_and_block<'a>(
     requires within { length inside.now + length after.now ≤ end }
     requires some { 0 < length inside.now }
     ensures gives { Answers (λ x. ((view x.0).0, (view x.0).1, (view x.0).2, x.1.now)) result
-        (close (reads reader.now)
+        (close (reads reader.now) reader.now.language
         (fills (first_head start) (first_width start) inside.now after.now)) }
     ensures placed { IfErr result (IsPlaced end) }
 {
@@ -336,7 +341,7 @@ fn package<'a>(
     requires within { length inside.now + length after.now ≤ end }
     requires place { offset ≤ end }
     ensures gives { Answers (λ x. ((view x.0).0, (view x.0).1, (view x.0).2, x.1.now)) result
-        (close (reads reader.now) (packs width count inside.now after.now)) }
+        (close (reads reader.now) reader.now.language (packs width count inside.now after.now)) }
     ensures placed { IfErr result (IsPlaced end) }
 {
     let end = end - after.len();
@@ -401,7 +406,7 @@ fn roomy<'a>(
     requires within { length inside.now + length after.now ≤ end }
     requires place { offset ≤ end }
     ensures gives { Answers (λ x. ((view x.0).0, (view x.0).1, (view x.0).2, x.1.now)) result
-        (close (reads reader.now) (rooms width room inside.now after.now)) }
+        (close (reads reader.now) reader.now.language (rooms width room inside.now after.now)) }
     ensures placed { IfErr result (IsPlaced end) }
 {
     let elements = all(reader, Mode::Element, inside, end - after.len())?;
@@ -420,7 +425,7 @@ fn buffer<'a>(
 ) -> Result<(Term, &'a [u8]), ReadError>
     requires within { length content.now + length after.now ≤ end }
     ensures gives { Answers (λ x. ((view x.0).0, (view x.0).1, (view x.0).2, x.1.now)) result
-        (close (reads reader.now) (begins width content.now after.now)) }
+        (close (reads reader.now) reader.now.language (begins width content.now after.now)) }
     ensures placed { IfErr result (IsPlaced end) }
 {
     let alloc = reader.arities.allocator();
@@ -485,7 +490,7 @@ fn bank_field<'a>(
     requires within { length inside.now + length after.now ≤ end }
     requires place { offset ≤ end }
     ensures gives { Answers (λ x. ((view x.0).0, (view x.0).1, (view x.0).2, x.1.now)) result
-        (close (reads reader.now) (banks start.width start.name start.bank inside.now after.now)) }
+        (close (reads reader.now) reader.now.language (banks start.width start.name start.bank inside.now after.now)) }
     ensures placed { IfErr result (IsPlaced end) }
 {
     let alloc = reader.arities.allocator();
@@ -584,8 +589,8 @@ pub fn terms(bytes: &[u8], arities: &Arities) -> Result<Vec<Term>, ReadError>
 
 /// The same in the language of the standard, with all terms and names that these definitions have.
 pub fn standard_terms(bytes: &[u8], arities: &Arities) -> Result<Vec<Term>, ReadError>
-    ensures ok { IfOk result (λ v. AreReadIn (grammar_of Standard (arity arities.now)) bytes.now (views v.items)) }
-    ensures err { IfErr result (IsUnreadIn (grammar_of Standard (arity arities.now)) bytes.now) }
+    ensures ok { IfOk result (λ v. AreReadIn (grammar_by Standard arities.now) bytes.now (views v.items)) }
+    ensures err { IfErr result (IsUnreadIn (grammar_by Standard arities.now) bytes.now) }
 {
     let reader = TermReader::new(Language::Standard, arities);
     all(&reader, Mode::Term, bytes, bytes.len())

@@ -78,29 +78,29 @@ module _ (g : Grammar) where
   several_only : (ts : Terms) → CountedAgain ts → (d : ℕ) (m : Mode) → AreLegal g m ts → counted (term_at g d) (count ts) m (spelling ts) ≡ guarded (within ts d) (ts, [])
   several_only ts law d m f = ap (counted (term_at g d) (count ts) m) (sym (append-nil (spelling ts))) ∙ law d m [] f
 
-  follows_closes : (h : Head) (w : ℕ) (c : Terms) → Again c → (d : ℕ) (rest : List ℕ) → AreLegal g (inner h) c → close (term_at g d) (follows h w (count c) (spelling c ++ rest)) ≡ guarded (within c d) (h, w, c, rest)
+  follows_closes : (h : Head) (w : ℕ) (c : Terms) → Again c → (d : ℕ) (rest : List ℕ) → AreLegal g (inner g.language h) c → close (term_at g d) g.language (follows h w (count c) (spelling c ++ rest)) ≡ guarded (within c d) (h, w, c, rest)
   unfolding close
-  follows_closes h w c law d rest f = rw (law.several d (inner h) rest f) (guard_then (within c d) (c, rest) (λ x. Ok (h, w, x.0, x.1)) (h, w, c, rest) refl)
+  follows_closes h w c law d rest f = rw (law.several d (inner g.language h) rest f) (guard_then (within c d) (c, rest) (λ x. Ok (h, w, x.0, x.1)) (h, w, c, rest) refl)
 
-  fills_closes : (h : Head) (w : ℕ) (c : Terms) → Again c → (d : ℕ) (rest : List ℕ) → least_of h ≤ count c → AreLegal g (inner h) c → close (term_at g d) (fills h w (spelling c) rest) ≡ guarded (within c d) (h, w, c, rest)
+  fills_closes : (h : Head) (w : ℕ) (c : Terms) → Again c → (d : ℕ) (rest : List ℕ) → least_of h ≤ count c → AreLegal g (inner g.language h) c → close (term_at g d) g.language (fills h w (spelling c) rest) ≡ guarded (within c d) (h, w, c, rest)
   unfolding close assembled
   fills_closes h w c law d rest enough f =
       let long : ltb (count c) (least_of h) ≡ false = le-ltb (count c) (least_of h) enough in
-      rw (law.whole d (inner h) (length (spelling c)) (omega arith) f) (guard_then (within c d) c (λ x. assembled h w x >>= λ t. Ok (t.0, t.1, t.2, rest)) (h, w, c, rest) (rw long refl))
+      rw (law.whole d (inner g.language h) (length (spelling c)) (omega arith) f) (guard_then (within c d) c (λ x. assembled h w x >>= λ t. Ok (t.0, t.1, t.2, rest)) (h, w, c, rest) (rw long refl))
 
-  rooms_close : (n : ℕ) (h : Head) (w : ℕ) (c : Terms) → Again c → (d : ℕ) (rest : List ℕ) → roomed w n c rest ≡ Ok (h, w, c, rest) → AreLegal g Element c → close (term_at g d) (rooms w n (spelling c) rest) ≡ guarded (within c d) (h, w, c, rest)
+  rooms_close : (n : ℕ) (h : Head) (w : ℕ) (c : Terms) → Again c → (d : ℕ) (rest : List ℕ) → roomed w n c rest ≡ Ok (h, w, c, rest) → AreLegal g Element c → close (term_at g d) g.language (rooms w n (spelling c) rest) ≡ guarded (within c d) (h, w, c, rest)
   unfolding close
   rooms_close n h w c law d rest is f =
       rw (law.whole d Element (length (spelling c)) (omega arith) f) (guard_then (within c d) c (λ x. roomed w n x rest) (h, w, c, rest) is)
 
   package_closes : (t : Bool) (w : ℕ) (c : Terms) → Again c → (d : ℕ) (rest : List ℕ) → AreLegal g Element c
-      → close (term_at g d) (cond t (rooms w (count c) (spelling c) rest) (packs w (count c) (spelling c) rest)) ≡ guarded (within c d) (def_package, w, c, rest)
+      → close (term_at g d) g.language (cond t (rooms w (count c) (spelling c) rest) (packs w (count c) (spelling c) rest)) ≡ guarded (within c d) (def_package, w, c, rest)
   unfolding close
   package_closes true w c law d rest f = rooms_close (count c) def_package w c law d rest (roomed_all w c rest) f
   package_closes false w c law d rest f = rw (several_only c law.several d Element f) (guard_then (within c d) (c, []) (λ x. wants_no_more (term_at g d) def_package w x.0 x.1 rest) (def_package, w, c, rest) refl)
 
-  closes : (h : Head) (w : ℕ) (c : Terms) → Again c → (d : ℕ) (m : Mode) (rest : List ℕ) → IsLegal g m h w (count c) (spelling c) → AreLegal g (inner h) c
-      → close (term_at g d) (opened g.language h w (count c) (spelling c) rest) ≡ guarded (within c d) (h, w, c, rest)
+  closes : (h : Head) (w : ℕ) (c : Terms) → Again c → (d : ℕ) (m : Mode) (rest : List ℕ) → IsLegal g m h w (count c) (spelling c) → AreLegal g (inner g.language h) c
+      → close (term_at g d) g.language (opened g.language h w (count c) (spelling c) rest) ≡ guarded (within c d) (h, w, c, rest)
   unfolding close
   closes (def_scope name) w c law d m rest fh f = fills_closes (def_scope name) w c law d rest (omega arith) f
   closes (def_device name) w c law d m rest fh f = fills_closes (def_device name) w c law d rest (omega arith) f
@@ -129,7 +129,7 @@ module _ (g : Grammar) where
   closes h w c law d m rest fh f = follows_closes h w c law d rest f
 
   -- one term is read again
-  step : (h : Head) (w : ℕ) (c : Terms) → Again c → (d : ℕ) (m : Mode) (rest : List ℕ) → IsLegal g m h w (count c) (spelling c) → AreLegal g (inner h) c
+  step : (h : Head) (w : ℕ) (c : Terms) → Again c → (d : ℕ) (m : Mode) (rest : List ℕ) → IsLegal g m h w (count c) (spelling c) → AreLegal g (inner g.language h) c
       → term_at g (suc d) m (spelled h w (count c) (spelling c) ++ rest) ≡ guarded (within c d) (h, w, c, rest)
   unfolding term_at
   step h w c law d m rest fh f = rw (open_again g m h w (count c) (spelling c) rest fh (nothing_inside c)) (closes h w c law d m rest fh f)

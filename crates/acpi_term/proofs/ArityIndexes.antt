@@ -10,6 +10,7 @@ use Rattle.std.specs.Ordering.{match_ordering}
 use Rattle.std.specs.Str.{bytes_eq}
 use Rattle.acpi_term.specs.Arity.{is_stated, arity, with_new}
 use Rattle.acpi_term.specs.ArityIndex.{number_of, Indexes, IsIndexed}
+use Rattle.acpi_term.specs.Name.{begins_up, without_parents}
 use Rattle.acpi_term.specs.declared.arity_index.ArityIndex.{ArityIndex}
 
 -- ---- lists
@@ -37,6 +38,11 @@ with_further all a e = ap (λ b. cond b all (all ++ a ∷ [])) (sym (is_stated_b
 pub arity_by : (all : List (List ℕ × ℕ)) (name : List ℕ) → arity all name ≡ unwrap_or (number_of all name) 0
 arity_by [] name = refl
 arity_by (b ∷ all) name = grind (arith, arity_by all name)
+
+-- a name that doesn't begin with `^` is itself without them
+pub as_it_is : (name : List ℕ) → begins_up name ≡ false → without_parents name ≡ name
+as_it_is [] e = refl
+as_it_is (b ∷ rest) e = ap (λ t. cond t (without_parents rest) (b ∷ rest)) e
 
 -- the index that there is
 pub the_index : (o : Option ArityIndex) (index : ArityIndex) (all : List (List ℕ × ℕ)) → o ≡ Some index → IsIndexed o all → Indexes index all

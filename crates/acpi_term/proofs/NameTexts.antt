@@ -1,6 +1,6 @@
 -- Texts of names.
 use Rattle.std.specs.List.{concat}
-use Rattle.std.proofs.Common.{◌≡◌, zero, ℕ, suc, ◌-◌, ◌<◌, get_or, take, drop, ◌≤◌, Bool, true, false, cond, eqb, List, [], ◌∷◌, ◌++◌, length, None, Some, refl, sym, ap, ◌∙◌, arith}
+use Rattle.std.proofs.Common.{◌≡◌, zero, ℕ, suc, ◌-◌, ◌/◌, ◌<◌, get_or, take, drop, ◌≤◌, Bool, true, false, cond, eqb, List, [], ◌∷◌, ◌++◌, length, None, Some, refl, sym, ap, ◌∙◌, arith}
 use Rattle.std.specs.Prelude.{◌&&◌, nat_le}
 use Rattle.std.proofs.lemmas.Bool.{leb-true, eqb-true, and_parts, ne_eqb}
 use Rattle.std.proofs.lemmas.List.{take_all}
@@ -9,7 +9,7 @@ use Rattle.acpi_base.specs.declared.error.Error.{Error}
 use Rattle.acpi_base.specs.declared.error.Error.TheVariants.{NamePart, PathParts, Memory}
 use Rattle.acpi_base.specs.Object.{whole, ended, Built, IsOwnEnd}
 use Rattle.acpi_term.specs.Name.{is_lead, is_part, is_segment, AreSegments, no_more, one_more, IsPath, single, double, multiple, IsName, relative, rooted, IsNameString, as_written}
-use Rattle.acpi_term.specs.PathText.{parts, is_standard, are_standard, are_fours, dotted, is_rooted, unrooted, lead, parts_end, path_spelling, path_of, is_name_text}
+use Rattle.acpi_term.specs.PathText.{are_segments, parts, is_standard, are_standard, are_fours, dotted, is_rooted, unrooted, lead, parts_end, path_spelling, path_of, is_name_text}
 use Rattle.acpi_term.proofs.PathTexts as paths
 use Rattle.acpi_term.proofs.Rows.{ended_none}
 
@@ -118,6 +118,24 @@ named text h =
     let both = parts_few text h in
     rooted_or (is_rooted text) (lead (length (parts (unrooted text))) ++ concat (parts (unrooted text)))
     (path_from (length (parts (unrooted text))) (concat (parts (unrooted text))) (paths.some_parts (unrooted text)) both.1 (segments_of (parts (unrooted text)) both.0))
+
+-- ---- the name of segments
+
+segments_from : (n : ℕ) (s : List ℕ) → length s / 4 ≡ n → are_segments s ≡ true → AreSegments n s
+segments_from zero [] count h = no_more
+segments_from (suc n) [] count h = absurd (omega (arith, count))
+segments_from n (a ∷ []) count h = absurd cc
+segments_from n (a ∷ b ∷ []) count h = absurd cc
+segments_from n (a ∷ b ∷ c ∷ []) count h = absurd cc
+segments_from zero (a ∷ b ∷ c ∷ d ∷ s) count h = absurd (omega (arith, count))
+segments_from (suc n) (a ∷ b ∷ c ∷ d ∷ s) count h =
+    let both = and_parts (is_segment a b c d) (are_segments s) h in
+    one_more both.0 (segments_from n s (omega (arith, count)) both.1)
+
+-- between 1 and 255 segments have a name
+pub segments_name : (t : Bool) (n : ℕ) (s : List ℕ) → n ≡ length s / 4 → 0 < n → n ≤ 255 → are_segments s ≡ true
+    → IsNameString (cond t (92 ∷ []) [] ++ (lead n ++ s))
+segments_name t n s is some few h = as_written (rooted_or t (lead n ++ s) (path_from n s some few (segments_from n s (sym is) h)))
 
 whole_path : (t u : Bool) (b : List ℕ) → t ≡ true → u ≡ true
     → ((ended (cond t (cond u None (Some PathParts)) (Some NamePart)) (whole b)).end ≡ None) × ((ended (cond t (cond u None (Some PathParts)) (Some NamePart)) (whole b)).front ≡ b)

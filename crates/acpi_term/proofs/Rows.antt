@@ -89,7 +89,7 @@ module _ (g : Grammar) where
       rw (chain_whole o (all_of os) both.0)
       (((s.0.0.0, s.0.0.1, rest.0.0), ap (λ (l : List ℕ). l ++ (all_of os).front) first ∙ ap (λ (l : List ℕ). spelled k w (count c) (spelling c) ++ l) rest.0.1), omega (arith, rest.1))
 
-  over_means : (m : Mode) (h : Head) (n : ℕ) (bytes : List ℕ) (ts : Terms) → n ≡ count ts → Stands g.language m h → Takes g.arity m h n → IsStandard g.language h → IsWritten h → own h n ≡ None → SpellsIn g (inner h) bytes ts
+  over_means : (m : Mode) (h : Head) (n : ℕ) (bytes : List ℕ) (ts : Terms) → n ≡ count ts → Stands g.language m h → Takes g.arity m h n → IsStandard g.language h → IsWritten h → own h n ≡ None → SpellsIn g (inner g.language h) bytes ts
       → (around (layout h (own_width h) n) (whole bytes)).end ≡ None → SpellsIn g m (around (layout h (own_width h) n) (whole bytes)).front (one h (writer_width h n bytes) ts)
   over_means m h n bytes ts same stands takes std written owns spells h_whole =
       let w = writer_width h n bytes in
@@ -100,17 +100,17 @@ module _ (g : Grammar) where
         front ∙ ap (λ (k : ℕ). spelled h w k bytes) same ∙ ap (spelled h w (count ts)) spells.1 ∙ sym (append-nil (spelled h w (count ts) (spelling ts))),
       )
 
-pub rows_over_mean_in : (g : Grammar) (m : Mode) (h : Head) (bytes : List ℕ) (ts : Terms) → Stands g.language m h → Takes g.arity m h (count ts) → IsStandard g.language h → IsWritten h → own h (count ts) ≡ None → SpellsIn g (inner h) bytes ts
+pub rows_over_mean_in : (g : Grammar) (m : Mode) (h : Head) (bytes : List ℕ) (ts : Terms) → Stands g.language m h → Takes g.arity m h (count ts) → IsStandard g.language h → IsWritten h → own h (count ts) ≡ None → SpellsIn g (inner g.language h) bytes ts
     → (around (layout h (own_width h) (count ts)) (whole bytes)).end ≡ None → SpellsIn g m (around (layout h (own_width h) (count ts)) (whole bytes)).front (one h (writer_width h (count ts) bytes) ts)
 rows_over_mean_in g m h bytes ts = over_means g m h (count ts) bytes ts refl
 
-pub rows_mean_in : (g : Grammar) (m : Mode) (h : Head) (objects : List Object) (ts : Terms) → Stands g.language m h → Takes g.arity m h (length objects) → IsStandard g.language h → IsWritten h → SpellEachIn g (inner h) objects ts
+pub rows_mean_in : (g : Grammar) (m : Mode) (h : Head) (objects : List Object) (ts : Terms) → Stands g.language m h → Takes g.arity m h (length objects) → IsStandard g.language h → IsWritten h → SpellEachIn g (inner g.language h) objects ts
     → (row h objects).end ≡ None → SpellsIn g m (row h objects).front (one h (writer_width h (length objects) (all_of objects).front) ts)
 rows_mean_in g m h objects ts stands takes std written spells h_whole =
     let l = layout h (own_width h) (length objects) in
     let a = ended_none (own h (length objects)) (around l (all_of objects)) h_whole in
     let b = around_whole l (all_of objects) a.1 in
-    let d = each_in g (inner h) objects ts spells b.0 in
+    let d = each_in g (inner g.language h) objects ts spells b.0 in
     let e = over_means g m h (length objects) (all_of objects).front ts (sym d.1) stands takes std written a.0 d.0 b.1 in
     (e.0, a.2 ∙ b.2 ∙ e.1)
 
@@ -124,11 +124,11 @@ stands_written m h std = refl
 pub each : (arity : List ℕ → ℕ) (m : Mode) (objects : List Object) (ts : Terms) → SpellEach arity m objects ts → (all_of objects).end ≡ None → Spells arity m (all_of objects).front ts × (count ts ≡ length objects)
 each arity = each_in (written_grammar arity)
 
-pub rows_over_mean : (arity : List ℕ → ℕ) (m : Mode) (h : Head) (bytes : List ℕ) (ts : Terms) → Takes arity m h (count ts) → IsStandard Written h → IsWritten h → own h (count ts) ≡ None → Spells arity (inner h) bytes ts
+pub rows_over_mean : (arity : List ℕ → ℕ) (m : Mode) (h : Head) (bytes : List ℕ) (ts : Terms) → Takes arity m h (count ts) → IsStandard Written h → IsWritten h → own h (count ts) ≡ None → Spells arity (inner Written h) bytes ts
     → (around (layout h (own_width h) (count ts)) (whole bytes)).end ≡ None → Spells arity m (around (layout h (own_width h) (count ts)) (whole bytes)).front (one h (writer_width h (count ts) bytes) ts)
 rows_over_mean arity m h bytes ts takes std = rows_over_mean_in (written_grammar arity) m h bytes ts (stands_written m h std) takes std
 
-pub rows_mean : (arity : List ℕ → ℕ) (m : Mode) (h : Head) (objects : List Object) (ts : Terms) → Takes arity m h (length objects) → IsStandard Written h → IsWritten h → SpellEach arity (inner h) objects ts
+pub rows_mean : (arity : List ℕ → ℕ) (m : Mode) (h : Head) (objects : List Object) (ts : Terms) → Takes arity m h (length objects) → IsStandard Written h → IsWritten h → SpellEach arity (inner Written h) objects ts
     → (row h objects).end ≡ None → Spells arity m (row h objects).front (one h (writer_width h (length objects) (all_of objects).front) ts)
 rows_mean arity m h objects ts takes std = rows_mean_in (written_grammar arity) m h objects ts (stands_written m h std) takes std
 

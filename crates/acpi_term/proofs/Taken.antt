@@ -28,7 +28,7 @@ module _ (g : Grammar) where
   pub record OneTaken (d : ℕ) (m : Mode) (bytes : List ℕ) (x : Found) : Type 0 where
     pub parts : bytes ≡ spelled x.0 x.1 (count x.2) (spelling x.2) ++ x.3
     pub head : IsLegal g m x.0 x.1 (count x.2) (spelling x.2)
-    pub children : AreLegal g (inner x.0) x.2
+    pub children : AreLegal g (inner g.language x.0) x.2
     pub deep : depth x.2 < d
     pub rest_fits : AreBytes x.3
 
@@ -90,13 +90,13 @@ module _ (g : Grammar) where
     nothing_more h w ts [] after x e = (refl, ok_is {A = Found} (h, w, ts, after) x e)
     nothing_more h w ts (b ∷ rest) after x e = absurd cc
 
-    follows_takes : (h : Head) (w n : ℕ) (rest bytes : List ℕ) (m : Mode) (o : Terms × List ℕ) → OpenTakes g m bytes (follows h w n rest) → SeveralTaken d n (inner h) rest o → OneTaken (suc d) m bytes (h, w, o.0, o.1)
+    follows_takes : (h : Head) (w n : ℕ) (rest bytes : List ℕ) (m : Mode) (o : Terms × List ℕ) → OpenTakes g m bytes (follows h w n rest) → SeveralTaken d n (inner g.language h) rest o → OneTaken (suc d) m bytes (h, w, o.0, o.1)
     follows_takes h w n rest bytes m o t s =
         let f = t.1 (spelling o.0) o.1 s.parts (λ z. nothing_inside o.0 (s.number ∙ z)) in
         let g = subst (λ (k : ℕ). (bytes ≡ spelled h w k (spelling o.0) ++ o.1) × IsLegal g m h w k (spelling o.0)) (sym s.number) f in
         record { parts = g.0; head = g.1; children = s.fits; deep = omega (arith, s.deep); rest_fits = s.rest_fits }
 
-    fills_takes : (h : Head) (w : ℕ) (inside after bytes : List ℕ) (m : Mode) (ts : Terms) → OpenTakes g m bytes (fills h w inside after) → AllTaken d (inner h) inside ts → least_of h ≤ count ts → OneTaken (suc d) m bytes (h, w, ts, after)
+    fills_takes : (h : Head) (w : ℕ) (inside after bytes : List ℕ) (m : Mode) (ts : Terms) → OpenTakes g m bytes (fills h w inside after) → AllTaken d (inner g.language h) inside ts → least_of h ≤ count ts → OneTaken (suc d) m bytes (h, w, ts, after)
     fills_takes h w inside after bytes m ts t s enough =
         let g = subst (λ (l : List ℕ). (bytes ≡ spelled h w (count ts) l ++ after) × IsLegal g m h w (count ts) l) s.parts (t.2 (count ts) enough) in
         record { parts = g.0; head = g.1; children = s.fits; deep = omega (arith, s.deep); rest_fits = t.1 }
@@ -108,7 +108,7 @@ module _ (g : Grammar) where
         let g = subst (λ (k : ℕ). (bytes ≡ spelled def_package w k (spelling o.0) ++ after) × IsLegal g m def_package w k (spelling o.0)) (sym s.number) f in
         record { parts = g.0; head = g.1; children = s.fits; deep = omega (arith, s.deep); rest_fits = t.1 }
 
-    rooms_takes : (h : Head) (w : ℕ) (inside after bytes : List ℕ) (m : Mode) (ts : Terms) → Element ≡ inner h → AreBytes after → AllTaken d Element inside ts
+    rooms_takes : (h : Head) (w : ℕ) (inside after bytes : List ℕ) (m : Mode) (ts : Terms) → Element ≡ inner g.language h → AreBytes after → AllTaken d Element inside ts
         → (bytes ≡ spelled h w (count ts) inside ++ after) × IsLegal g m h w (count ts) inside → OneTaken (suc d) m bytes (h, w, ts, after)
     rooms_takes h w inside after bytes m ts place after_fits s f =
         let k = subst (λ (l : List ℕ). (bytes ≡ spelled h w (count ts) l ++ after) × IsLegal g m h w (count ts) l) s.parts f in
@@ -139,16 +139,16 @@ module _ (g : Grammar) where
         let r = subst (λ (k : ℕ). (bytes ≡ spelled h w k (spelling c) ++ after) × IsLegal g m h w k (spelling c)) (sym s.number) f in
         subst (OneTaken (suc d) m bytes) (ok_is {A = Found} (h, w, c, after) x a.2) (record { parts = r.0; head = r.1; children = s.fits; deep = omega (arith, s.deep); rest_fits = t.1 })
 
-    close_takes : (o : Opened) (bytes : List ℕ) (m : Mode) (x : Found) → OpenTakes g m bytes o → close p o ≡ Ok x → OneTaken (suc d) m bytes x
+    close_takes : (o : Opened) (bytes : List ℕ) (m : Mode) (x : Found) → OpenTakes g m bytes o → close p g.language o ≡ Ok x → OneTaken (suc d) m bytes x
     unfolding close assembled
     close_takes (follows h w n rest) bytes m x t e =
-        let a = bind_ok (counted p n (inner h) rest) (λ c. Ok (h, w, c.0, c.1)) x e in
-        subst (OneTaken (suc d) m bytes) (ok_is {A = Found} (h, w, a.0.0, a.0.1) x a.2) (follows_takes h w n rest bytes m a.0 t (counted_takes n (inner h) rest a.0 t.0 a.1))
+        let a = bind_ok (counted p n (inner g.language h) rest) (λ c. Ok (h, w, c.0, c.1)) x e in
+        subst (OneTaken (suc d) m bytes) (ok_is {A = Found} (h, w, a.0.0, a.0.1) x a.2) (follows_takes h w n rest bytes m a.0 t (counted_takes n (inner g.language h) rest a.0 t.0 a.1))
     close_takes (fills h w inside after) bytes m x t e =
-        let a = bind_ok (all_of p (length inside) (inner h) inside) (λ c. assembled h w c >>= λ t. Ok (t.0, t.1, t.2, after)) x e in
+        let a = bind_ok (all_of p (length inside) (inner g.language h) inside) (λ c. assembled h w c >>= λ t. Ok (t.0, t.1, t.2, after)) x e in
         let f = bind_ok (assembled h w a.0) (λ t. Ok (t.0, t.1, t.2, after)) x a.2 in
         let b = passed (ltb (count a.0) (least_of h)) Bad (Ok (h, w, a.0)) f.0 f.1 in
-        subst (OneTaken (suc d) m bytes) (found_is (h, w, a.0) f.0 after x (ok_is {A = One} (h, w, a.0) f.0 b.1) (ok_is {A = Found} (f.0.0, f.0.1, f.0.2, after) x f.2)) (fills_takes h w inside after bytes m a.0 t (all_takes (length inside) (inner h) inside a.0 t.0 a.1) (ltb-false _ _ b.0))
+        subst (OneTaken (suc d) m bytes) (found_is (h, w, a.0) f.0 after x (ok_is {A = One} (h, w, a.0) f.0 b.1) (ok_is {A = Found} (f.0.0, f.0.1, f.0.2, after) x f.2)) (fills_takes h w inside after bytes m a.0 t (all_takes (length inside) (inner g.language h) inside a.0 t.0 a.1) (ltb-false _ _ b.0))
     close_takes (packs w n inside after) bytes m x t e =
         let a = bind_ok (counted p n Element inside) (λ c. wants_no_more p def_package w c.0 c.1 after) x e in
         let b = nothing_more def_package w a.0.0 a.0.1 after x a.2 in
@@ -178,7 +178,7 @@ module _ (g : Grammar) where
   term_takes zero = record { takes = λ m bytes x fits e. absurd cc }
   term_takes (suc d) = record {
     takes = λ m bytes x fits e.
-        let o = bind_ok (open_at g m bytes) (close (term_at g d)) x e in
+        let o = bind_ok (open_at g m bytes) (close (term_at g d) g.language) x e in
         close_takes (term_at g d) d (term_takes d) o.0 bytes m x (open_takes g m bytes o.0 fits o.1) o.2;
   }
 

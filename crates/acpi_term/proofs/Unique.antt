@@ -49,14 +49,14 @@ module _ (g : Grammar) where
   splits_spell : (m : Mode) (bytes : List ℕ) (ts : Terms) → SplitsIn g m bytes ts → SpellsIn g m bytes ts
   splits_spell m bytes end s = (tt, s)
   splits_spell m bytes (term h w c o) s =
-      let inside = splits_spell (inner h) s.2 c s.6 in
+      let inside = splits_spell (inner g.language h) s.2 c s.6 in
       let others = splits_spell (next m) s.1 o s.7 in
       let first : s.0 ≡ spelled h w (count c) (spelling c) = s.4 ∙ ap (spelled h w (count c)) inside.1 in
       ((subst (IsLegal g m h w (count c)) inside.1 s.5, inside.0, others.0), s.3 ∙ ap (λ (l : List ℕ). l ++ s.1) first ∙ ap (λ (l : List ℕ). spelled h w (count c) (spelling c) ++ l) others.1)
 
   terms_split : (m : Mode) (ts : Terms) → AreLegal g m ts → SplitsIn g m (spelling ts) ts
   terms_split m end f = refl
-  terms_split m (term h w c o) f = (spelled h w (count c) (spelling c), spelling o, spelling c, refl, refl, f.0, terms_split (inner h) c f.1, terms_split (next m) o f.2)
+  terms_split m (term h w c o) f = (spelled h w (count c) (spelling c), spelling o, spelling c, refl, refl, f.0, terms_split (inner g.language h) c f.1, terms_split (next m) o f.2)
 
   pub splits_agree : (m : Mode) (bytes : List ℕ) (ts : Terms) → SpellsIn g m bytes ts ↔ SplitsIn g m bytes ts
   splits_agree m bytes ts = (λ s. subst (λ (l : List ℕ). SplitsIn g m l ts) (sym s.1) (terms_split m ts s.0), splits_spell m bytes ts)

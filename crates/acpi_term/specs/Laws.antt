@@ -21,7 +21,7 @@ use Rattle.acpi_term.specs.Splits.{SplitsIn}
 abbrev pub RowsMean : Type 0
 RowsMean =
     (arity : List ℕ → ℕ) (m : Mode) (h : Head) (objects : List Object) (ts : Terms)
-    → Takes arity m h (length objects) → IsStandard Written h → IsWritten h → SpellEach arity (inner h) objects ts
+    → Takes arity m h (length objects) → IsStandard Written h → IsWritten h → SpellEach arity (inner Written h) objects ts
     → (row h objects).end ≡ None
     → Spells arity m (row h objects).front (one h (writer_width h (length objects) (all_of objects).front) ts)
 
@@ -29,7 +29,7 @@ RowsMean =
 abbrev pub RowsOverMean : Type 0
 RowsOverMean =
     (arity : List ℕ → ℕ) (m : Mode) (h : Head) (bytes : List ℕ) (ts : Terms)
-    → Takes arity m h (count ts) → IsStandard Written h → IsWritten h → own h (count ts) ≡ None → Spells arity (inner h) bytes ts
+    → Takes arity m h (count ts) → IsStandard Written h → IsWritten h → own h (count ts) ≡ None → Spells arity (inner Written h) bytes ts
     → (around (layout h (own_width h) (count ts)) (whole bytes)).end ≡ None
     → Spells arity m (around (layout h (own_width h) (count ts)) (whole bytes)).front (one h (writer_width h (count ts) bytes) ts)
 

@@ -17,11 +17,15 @@ pub record Facts : Type 0 where
   pub word : List ℕ
   -- the least language that has it
   pub language : Language
-  -- the place of its first operand
+  -- the place of its first operand in the language of the standard
   pub place : Mode
 
 abbrev pub known : List ℕ → ℕ → List ℕ → Facts
 known code count text = record { opcode = code; operands = count; word = text; language = Written; place = Term }
+
+-- the same, where the first operand has another place in the standard
+abbrev pub known_naming : List ℕ → ℕ → List ℕ → Mode → Facts
+known_naming code count text first = record { opcode = code; operands = count; word = text; language = Written; place = first }
 
 -- an operator that only the standard has
 abbrev pub other : List ℕ → ℕ → List ℕ → Facts
@@ -41,7 +45,7 @@ facts op.LOr = known (0x91 ∷ []) 2 (codes "lor")
 facts op.Increment = known (0x75 ∷ []) 1 (codes "increment")
 facts op.Decrement = known (0x76 ∷ []) 1 (codes "decrement")
 facts op.Break = known (0xa5 ∷ []) 0 (codes "break")
-facts op.ObjectType = known (0x8e ∷ []) 1 (codes "objecttype")
+facts op.ObjectType = known_naming (0x8e ∷ []) 1 (codes "objecttype") Element
 facts op.SizeOf = known (0x87 ∷ []) 1 (codes "sizeof")
 facts op.Return = known (0xa4 ∷ []) 1 (codes "return")
 facts op.DeRefOf = known (0x83 ∷ []) 1 (codes "derefof")
@@ -113,12 +117,14 @@ word o = (facts o).word
 abbrev pub language_of : Op → Language
 language_of o = (facts o).language
 
-abbrev pub place : Op → Mode
-place o = (facts o).place
+-- the place of its first operand: in what this library writes, each operand stands as a term
+abbrev pub place : Language → Op → Mode
+place Written o = Term
+place Standard o = (facts o).place
 
--- both languages have the operator, with n operands in places of terms
+-- both languages have the operator, with n operands
 abbrev pub IsKnown : Op → ℕ → Type 0
-IsKnown o n = facts o ≡ known (opcode o) n (word o)
+IsKnown o n = ◌≡◌ {A = Language × ℕ} (language_of o, operands o) (Written, n)
 
 abbrev pub operators : List Op
 operators =

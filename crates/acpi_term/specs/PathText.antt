@@ -1,5 +1,5 @@
 -- Paths as texts: an optional `\`, and then parts with dots between them.
-use Rattle.std.specs.Prelude.{◌≢◌, ℕ, ◌==◌, ◌&&◌, ◌||◌, nat_le, Bool, true, false}
+use Rattle.std.specs.Prelude.{◌≢◌, ℕ, ◌/◌, ◌==◌, ◌&&◌, ◌||◌, nat_le, Bool, true, false}
 use Rattle.std.specs.Prelude.{if◌then◌else◌, List, [], ◌∷◌, ◌++◌, length, Option, Some, None}
 use Rattle.std.specs.List.{concat}
 use Rattle.acpi_base.specs.declared.error.Error.{Error}
@@ -63,6 +63,18 @@ unrooted (b ∷ text) = if b == 0x5c then text else b ∷ text
 -- the bytes before this many segments (ACPI 6.5, 20.2.2): none, DualNamePrefix, or MultiNamePrefix and their number
 abbrev pub lead : ℕ → List ℕ
 lead n = if n == 1 then [] else (if n == 2 then 0x2e ∷ [] else 0x2f ∷ n ∷ [])
+
+-- whether bytes are standard segments, one after the other
+abbrev pub are_segments : List ℕ → Bool
+are_segments [] = true
+are_segments (a ∷ b ∷ c ∷ d ∷ s) = is_segment a b c d && are_segments s
+are_segments _ = false
+
+-- the name of these segments, from the root or without it; bytes that aren't 1 to 255 standard segments have none
+abbrev pub name_of_segments : Bool → List ℕ → Option (List ℕ)
+name_of_segments from_root s =
+    if are_segments s && nat_le 1 (length s / 4) && nat_le (length s / 4) 255
+    then Some ((if from_root then 0x5c ∷ [] else []) ++ (lead (length s / 4) ++ s)) else None
 
 -- A part without four bytes is reported before too many parts.
 abbrev pub parts_end : List (List ℕ) → Option Error

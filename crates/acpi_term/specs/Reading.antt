@@ -407,15 +407,15 @@ module _ (read : Reader) where
   wants_no_more h w children [] after = Ok (h, w, children, after)
   wants_no_more h w children (b ∷ rest) after = Err Bad
 
-  unfoldable pub close : Opened → Result (Head × ℕ × Terms × List ℕ) Fault
-  close (follows h w n rest) = counted n (inner h) rest >>= λ c. Ok (h, w, c.0, c.1)
-  close (fills h w inside after) =
-      all_of (length inside) (inner h) inside >>= λ c. assembled h w c >>= λ t. Ok (t.0, t.1, t.2, after)
-  close (packs w n inside after) = counted n Element inside >>= λ c. wants_no_more def_package w c.0 c.1 after
-  close (rooms w n inside after) = all_of (length inside) Element inside >>= λ c. roomed w n c after
-  close (banks w name bank inside after) = counted 1 Term inside >>= λ c. banked w name bank c.0 c.1 after
-  close (begins w inside after) = counted 1 Term inside >>= λ c. Ok (def_buffer c.1, w, c.0, after)
+  unfoldable pub close : Language → Opened → Result (Head × ℕ × Terms × List ℕ) Fault
+  close l (follows h w n rest) = counted n (inner l h) rest >>= λ c. Ok (h, w, c.0, c.1)
+  close l (fills h w inside after) =
+      all_of (length inside) (inner l h) inside >>= λ c. assembled h w c >>= λ t. Ok (t.0, t.1, t.2, after)
+  close l (packs w n inside after) = counted n Element inside >>= λ c. wants_no_more def_package w c.0 c.1 after
+  close l (rooms w n inside after) = all_of (length inside) Element inside >>= λ c. roomed w n c after
+  close l (banks w name bank inside after) = counted 1 Term inside >>= λ c. banked w name bank c.0 c.1 after
+  close l (begins w inside after) = counted 1 Term inside >>= λ c. Ok (def_buffer c.1, w, c.0, after)
 
 unfoldable pub term_at : Grammar → ℕ → Reader
 term_at g zero m bytes = Err Deep
-term_at g (suc d) m bytes = open_at g m bytes >>= close (term_at g d)
+term_at g (suc d) m bytes = open_at g m bytes >>= close (term_at g d) g.language

@@ -14,7 +14,7 @@ use Rattle.acpi_term.specs.Tree.{def_external, def_leveled_method, def_processor
 use Rattle.acpi_term.specs.Tree.{def_index_field, def_bank_field}
 use Rattle.acpi_term.specs.Tree.{def_fatal, match_test, unread}
 use Rattle.acpi_term.specs.declared.language.Language.TheVariants.{Written, Standard}
-use Rattle.acpi_term.specs.Name.{AreSegments, IsNameIn, IsText, without_parents}
+use Rattle.acpi_term.specs.Name.{AreSegments, IsNameIn, IsText}
 use Rattle.acpi_term.specs.Length.{limit, least_width, with_length, FrameFits}
 use Rattle.acpi_term.specs.declared.language.Language.{Language}
 use Rattle.acpi_term.specs.Language.{Grammar, has, written_grammar}
@@ -39,13 +39,13 @@ spelling (term h w children others) = spelled h w (count children) (spelling chi
 
 -- ---- the places of children
 
--- the place of a head's first child
-abbrev pub inner : Head → Mode
-inner def_package = Element
-inner (def_roomy_package room) = Element
-inner def_var_package = Count
-inner (op o) = place o
-inner _ = Term
+-- the place of a head's first child in a language
+abbrev pub inner : Language → Head → Mode
+inner l def_package = Element
+inner l (def_roomy_package room) = Element
+inner l def_var_package = Count
+inner l (op o) = place l o
+inner l _ = Term
 
 -- the place after it
 abbrev pub next : Mode → Mode
@@ -162,12 +162,12 @@ IsWritten (def_bank_field name bank access lock update entries) = HaveLeastWidth
 IsWritten _ = Unit {0}
 
 module _ (arity : List ℕ → ℕ) where
-  -- How many arguments follow a name in this place. The number of a name after `^` is that of the name without them.
+  -- how many arguments follow a name in this place
   abbrev pub arguments : Mode → List ℕ → ℕ
-  arguments Term name = arity (without_parents name)
+  arguments Term name = arity name
   arguments Element name = 0
-  arguments Count name = arity (without_parents name)
-  arguments Searched name = arity (without_parents name)
+  arguments Count name = arity name
+  arguments Searched name = arity name
   arguments FirstTest name = 0
   arguments SecondTest name = 0
 
@@ -208,7 +208,7 @@ module _ (g : Grammar) where
   -- the terms have a spelling, if the first stands in this place
   abbrev pub AreLegal : Mode → Terms → Type 0
   AreLegal m end = Unit {0}
-  AreLegal m (term h w children others) = IsLegal m h w (count children) (spelling children) × AreLegal (inner h) children
+  AreLegal m (term h w children others) = IsLegal m h w (count children) (spelling children) × AreLegal (inner g.language h) children
       × AreLegal (next m) others
 
 -- the bytes spell these terms of a language, if the first stands in this place

@@ -12,4 +12,4 @@ SplitsIn g m bytes end = bytes ≡ []
 SplitsIn g m bytes (term h w children others) =
     (first rest inside : List ℕ) × (bytes ≡ first ++ rest) × (first ≡ spelled h w (count children) inside)
     × IsLegal g m h w (count children) inside
-    × SplitsIn g (inner h) inside children × SplitsIn g (next m) rest others
+    × SplitsIn g (inner g.language h) inside children × SplitsIn g (next m) rest others

@@ -1,22 +1,23 @@
 //! Names, and how many arguments they take.
 
-ghost use Rattle.std.specs.Prelude.{◌≡◌, ◌≢◌, ℕ, List, true, false, OnOk, IfOk, IfErr};
+ghost use Rattle.std.specs.Prelude.{◌≡◌, ◌≢◌, ◌++◌, ◌∷◌, [], ℕ, List, true, false, if◌then◌else◌, OnOk, IfOk, IfErr};
 ghost use Rattle.std.specs.Cmp.Lexicographic.{pointwise};
 ghost use Rattle.std.specs.Bool.{nat_eq};
 ghost use Rattle.acpi_term.specs.Held.{held, Holds};
 ghost use Rattle.acpi_term.specs.Name.{IsNameString, without_parents};
-ghost use Rattle.acpi_term.specs.PathText.{parts, are_standard, path_spelling, is_name_text};
-ghost use Rattle.acpi_term.specs.Arity.{is_stated, are_arities, arity, with_new};
+ghost use Rattle.acpi_term.specs.PathText.{parts, are_standard, path_spelling, is_name_text, are_segments, lead, name_of_segments};
+ghost use Rattle.acpi_term.specs.Arity.{is_stated, are_arities, arity, arity_above, arity_in, with_new};
 ghost use Rattle.acpi_term.specs.ArityIndex.{Indexes, IsIndexed};
 ghost use Rattle.acpi_term.specs.Spelling.{arguments};
 ghost use Rattle.std.specs.Cmp.{partial_equiv_from_equiv};
 ghost use Rattle.std.specs.Cmp.Lexicographic.{nat_list_eq_equiv};
 
 use crate::arity_index::ArityIndex;
+use crate::language::Language;
 use crate::mode::Mode;
 use crate::path_text::{path_bytes, split_root};
 use crate::read_error::ReadError;
-use crate::segment::is_segment;
+use crate::segment::{begins_up, is_segment};
 use acpi_base::error::Error;
 use std::alloc::{AllocError, Global};
 use std::marker::Model;
@@ -62,6 +63,23 @@ impl NameString {
         }
     }
 
+    /// The name of these segments, from the root or without it. Bytes that aren't 1 to 255 standard segments have none.
+    #[tactic(auto, using(crate::proofs::NameTexts::segments_name))]
+    pub fn of_segments(
+        alloc: Global,
+        from_root: bool,
+        segments: &[u8],
+    ) -> Result<Option<NameString>, AllocError>
+        ensures { IfOk result (λ name. name ≡ name_of_segments from_root segments.now) }
+    {
+        let count = segments.len() / 4;
+        if count == 0 || count > 255 || !are_segments(segments) {
+            return Ok(None);
+        }
+        let bytes = spelled(alloc, from_root, count as u8, segments)?;
+        Ok(Some(name_of(alloc, &bytes)?))
+    }
+
     /// The bytes that spell the name.
     pub fn as_bytes(&self) -> &[u8]
         ensures bytes { result.now ≡ self.now }
@@ -93,6 +111,42 @@ fn hold(alloc: Global, bytes: &[u8]) -> Result<NameBytes, AllocError>
     let mut few = [0; 14];
     few[..bytes.len()].copy_from_slice(bytes);
     Ok(NameBytes::Few(bytes.len() as u8, few))
+}
+
+// Returns whether bytes are standard segments, one after the other.
+fn are_segments(bytes: &[u8]) -> bool
+    ensures { result ≡ are_segments bytes.now }
+{
+    let mut rest = bytes;
+    'segments: while let [a, b, c, d, more @ ..] = rest {
+        if !is_segment(*a, *b, *c, *d) {
+            return false;
+        }
+        rest = more;
+    }
+    rest.is_empty()
+}
+
+// Returns the bytes of the name of so many segments.
+fn spelled(
+    alloc: Global,
+    from_root: bool,
+    count: u8,
+    segments: &[u8],
+) -> Result<Vec<u8>, AllocError>
+    ensures { IfOk result (λ bytes. bytes.items ≡ (if from_root then 0x5c ∷ [] else []) ++ (lead count ++ segments.now)) }
+{
+    let mut bytes = Vec::new(alloc);
+    if from_root {
+        bytes.push(0x5c)?;
+    }
+    match count {
+        1 => {}
+        2 => bytes.push(0x2e)?,
+        _ => bytes.extend_from_slice(&[0x2f, count])?,
+    }
+    bytes.extend_from_slice(segments)?;
+    Ok(bytes)
 }
 
 /// Names are equal if their bytes are.
@@ -168,6 +222,34 @@ impl Arities {
         count_by(&self.index, &self.counts, name)
     }
 
+    /// How many arguments a name takes that may begin with `^`: what is stated for it, or what is for the name without them.
+    #[tactic(auto, using(crate::proofs::ArityIndexes::as_it_is))]
+    pub fn count_above(&self, name: &[u8]) -> u8
+        ensures { result ≡ arity_above self.now name.now }
+    {
+        if begins_up(name) && !self.states(name) {
+            return self.count_of(without_parents(name));
+        }
+        self.count_of(name)
+    }
+
+    /// How many arguments a name of a language takes.
+    pub fn count_in(&self, language: Language, name: &[u8]) -> u8
+        ensures { result ≡ arity_in language self.now name.now }
+    {
+        match language {
+            Language::Written => self.count_of(name),
+            Language::Standard => self.count_above(name),
+        }
+    }
+
+    /// Whether the list states a number for a name.
+    pub fn states(&self, name: &[u8]) -> bool
+        ensures { result ≡ is_stated self.now name.now }
+    {
+        states(&self.index, &self.counts, name)
+    }
+
     /// A copy of the list.
     pub fn copy(&self, alloc: Global) -> Result<Arities, AllocError>
         ensures { IfOk result (λ arities. arities ≡ self.now) }
@@ -202,12 +284,12 @@ pub fn without_parents(name: &[u8]) -> &[u8]
     rest
 }
 
-/// How many arguments follow a name in this place. The number of a name after `^` is that of the name without them.
-pub fn arguments(arities: &Arities, mode: Mode, name: &[u8]) -> u8
-    ensures { result ≡ arguments (arity arities.now) mode name.now }
+/// How many arguments follow a name of a language in this place.
+pub fn arguments(language: Language, arities: &Arities, mode: Mode, name: &[u8]) -> u8
+    ensures { result ≡ arguments (arity_in language arities.now) mode name.now }
 {
     match mode {
-        Mode::Term | Mode::Count | Mode::Searched => arities.count_of(without_parents(name)),
+        Mode::Term | Mode::Count | Mode::Searched => arities.count_in(language, name),
         Mode::Element | Mode::FirstTest | Mode::SecondTest => 0,
     }
 }
@@ -271,6 +353,17 @@ fn copied(alloc: Global, counts: &[(NameString, u8)]) -> Result<Vec<(NameString,
         copies.push((name_of(alloc, name.as_bytes())?, *count))?;
     }
     Ok(copies)
+}
+
+// Whether a number is stated for a name, by the index if there is one.
+fn states(index: &Option<ArityIndex>, counts: &[(NameString, u8)], name: &[u8]) -> bool
+    requires { IsIndexed index.now counts.now }
+    ensures { result ≡ is_stated counts.now name.now }
+{
+    match index {
+        Some(index) => index.find(name).is_some(),
+        None => is_stated(counts, name),
+    }
 }
 
 // How many arguments a name takes, by the index if there is one.

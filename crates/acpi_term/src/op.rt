@@ -80,7 +80,7 @@ pub enum Op {
 }
 
 /// Every operator: the byte of its opcode, or the one after 5B (ACPI 6.5, 20.3), the number of its operands with the target
-/// (20.2.5), the least language that has it, the place of its first operand, and its word in a report.
+/// (20.2.5), the least language that has it, the place of its first operand in the standard, and its word in a report.
 macro_rules! operators {
     ($wanted:ident of $subject:expr) => {
         look_up! { $wanted $subject;
@@ -93,7 +93,7 @@ macro_rules! operators {
             Increment 0x75 1 Written Term "increment"
             Decrement 0x76 1 Written Term "decrement"
             Break 0xa5 0 Written Term "break"
-            ObjectType 0x8e 1 Written Term "objecttype"
+            ObjectType 0x8e 1 Written Element "objecttype"
             SizeOf 0x87 1 Written Term "sizeof"
             Return 0xa4 1 Written Term "return"
             DeRefOf 0x83 1 Written Term "derefof"
@@ -239,11 +239,14 @@ impl Op {
         operators!(language of self)
     }
 
-    /// The place of its first operand.
-    pub fn place(self) -> Mode
-        ensures { result ≡ place self }
+    /// The place of its first operand in a language. In what this library writes, each operand stands as a term.
+    pub fn place(self, language: Language) -> Mode
+        ensures { result ≡ place language self }
     {
-        operators!(place of self)
+        match language {
+            Language::Written => Mode::Term,
+            Language::Standard => operators!(place of self),
+        }
     }
 
     /// Its word in the lines of a report.

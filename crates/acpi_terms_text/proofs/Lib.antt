@@ -3,8 +3,8 @@ pub mod Woven
 pub mod Templates
 pub mod Runs
 pub mod Walks
-pub mod Dots
 pub mod Scopes
+pub mod Relative
 pub mod Operands
 pub mod Segments
 pub mod Single

@@ -12,7 +12,8 @@ use Rattle.acpi_term.specs.declared.op.Op.TheVariants as op
 use Rattle.acpi_term.specs.Name.{is_lead, is_part, is_segment, AreSegments, no_more, one_more, IsPath, single, double, multiple, relative, rooted, IsAbove, no_path, path_above, further_up, IsNameString, as_written, root_alone, upwards, IsNameIn}
 use Rattle.acpi_term.proofs.Names.{is_name_string}
 use Rattle.acpi_term.specs.declared.language.Language.{Language}
-use Rattle.acpi_term.specs.Language.{Grammar, grammar_of}
+use Rattle.acpi_term.specs.Arity.{grammar_by}
+use Rattle.acpi_term.specs.Language.{Grammar}
 use Rattle.acpi_term.specs.declared.language.Language.TheVariants.{Standard}
 use Rattle.acpi_term.specs.Operator.{word}
 use Rattle.acpi_term.specs.Row.{entry_width}
@@ -381,7 +382,7 @@ module _ (g : Grammar) where
       ∙ ap (λ (l : List ℕ). first' ++ l)
       (own_placed g.language (suc d) h (below ++ (after ++ rest)) (inner_notes ++ (after_notes ++ ns)) legal.0.is_standard
       ∙ ap (λ (l : List ℕ). own ++ l)
-      (all_placed (inner h) (has_ids ids h) (suc d) c legal.1 (after ++ rest) (after_notes ++ ns)
+      (all_placed (inner g.language h) (has_ids ids h) (suc d) c legal.1 (after ++ rest) (after_notes ++ ns)
       ∙ ap (λ (l : List ℕ). below' ++ l) (all_placed (next m) ids d o legal.2 rest ns)))
       ∙ joined
 
@@ -393,10 +394,10 @@ module _ (g : Grammar) where
       ∙ append-nil (annotated ts)
 
 -- The report of terms that were read, with its comments.
-pub is_annotated : (arity : List ℕ → ℕ) (bytes : List ℕ) (ts : Terms) (report text : List ℕ) (said : List (List ℕ)) → AreReadIn (grammar_of Standard arity) bytes ts
-    → report ≡ lines 0 ts → said ≡ notes false ts → text ≡ woven report said → IsAnnotated arity bytes text
-is_annotated arity bytes ts report text said read p q r = record {
+pub is_annotated : (stated : List (List ℕ × ℕ)) (bytes : List ℕ) (ts : Terms) (report text : List ℕ) (said : List (List ℕ)) → AreReadIn (grammar_by Standard stated) bytes ts
+    → report ≡ lines 0 ts → said ≡ notes false ts → text ≡ woven report said → IsAnnotated stated bytes text
+is_annotated stated bytes ts report text said read p q r = record {
   terms = ts;
   read = read;
-  is = r ∙ ap (λ (l : List ℕ). woven l said) p ∙ ap (λ (l : List (List ℕ)). woven (lines 0 ts) l) q ∙ in_place (grammar_of Standard arity) Term ts read.spelled.0;
+  is = r ∙ ap (λ (l : List ℕ). woven l said) p ∙ ap (λ (l : List (List ℕ)). woven (lines 0 ts) l) q ∙ in_place (grammar_by Standard stated) Term ts read.spelled.0;
 }

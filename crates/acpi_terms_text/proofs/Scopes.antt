@@ -9,7 +9,8 @@ use Rattle.acpi_term.specs.declared.term.Term.{Term}
 use Rattle.acpi_term.specs.Arity.{arity, with_all}
 use Rattle.acpi_terms_text.specs.declared.objects.Object.{Object}
 use Rattle.acpi_terms_text.specs.Objects.{inside, Callee, callee_by}
-use Rattle.acpi_terms_text.specs.Scoped.{outer, here, made_in, near, may_name, mention, differ, numbers_in, AreIfRead, Body, space, code, other, body, OfBody, IsBody, AreScoped}
+use Rattle.acpi_terms_text.specs.Scoped.{here, made_in, near, may_name, any, differ, AreIfRead, Body, space, code, other, body, OfBody, IsBody, AreScoped}
+use Rattle.acpi_terms_text.specs.Path.{parent}
 use Rattle.acpi_terms_text.proofs.Walks.{both_added}
 
 abbrev Counts : Type 0
@@ -27,45 +28,45 @@ or_joined false b c = refl
 pub differ_both : (own : Counts) (terms : Terms) (a b : Counts) → differ own terms (a ++ b) ≡ (differ own terms a || differ own terms b)
 differ_both own terms [] b = refl
 differ_both own terms (x ∷ a) b =
-    let one = not (arity own x.0 == x.1) && mention x.0 terms in
+    let one = not (arity own x.0 == x.1) && any (may_name x.0) terms in
     ap (λ (t : Bool). one || t) (differ_both own terms a b) ∙ or_joined one (differ own terms a) (differ own terms b)
 
--- ---- terms that mention a name
+-- ---- terms that have a head
 
-pub mention_first : (name : List ℕ) (t : Term) (ts : List Term) → mention name (views (t ∷ ts)) ≡ (mention name (single (view t)) || mention name (views ts))
-mention_first name t ts =
-    let one = may_name name (view t).0 in
-    let inner = mention name (view t).2 in
-    ap (λ (b : Bool). one || b) (ap (λ (b : Bool). b || mention name (views ts)) (sym (or_false inner))) ∙ or_joined one (inner || false) (mention name (views ts))
+pub any_first : (p : Head → Bool) (t : Term) (ts : List Term) → any p (views (t ∷ ts)) ≡ (any p (single (view t)) || any p (views ts))
+any_first p t ts =
+    let one = p (view t).0 in
+    let inner = any p (view t).2 in
+    ap (λ (b : Bool). one || b) (ap (λ (b : Bool). b || any p (views ts)) (sym (or_false inner))) ∙ or_joined one (inner || false) (any p (views ts))
 
-mention_both : (name : List ℕ) (a b : List Term) → mention name (views (a ++ b)) ≡ (mention name (views a) || mention name (views b))
-mention_both name [] b = refl
-mention_both name (t ∷ a) b =
-    let one = mention name (single (view t)) in
-    mention_first name t (a ++ b) ∙ ap (λ (l : Bool). one || l) (mention_both name a b) ∙ or_joined one (mention name (views a)) (mention name (views b))
-    ∙ ap (λ (l : Bool). l || mention name (views b)) (sym (mention_first name t a))
+any_both : (p : Head → Bool) (a b : List Term) → any p (views (a ++ b)) ≡ (any p (views a) || any p (views b))
+any_both p [] b = refl
+any_both p (t ∷ a) b =
+    let one = any p (single (view t)) in
+    any_first p t (a ++ b) ∙ ap (λ (l : Bool). one || l) (any_both p a b) ∙ or_joined one (any p (views a)) (any p (views b))
+    ∙ ap (λ (l : Bool). l || any p (views b)) (sym (any_first p t a))
 
 -- of the terms from i on: of the term i, and of those after it
-pub mention_split : (name : List ℕ) (ts : List Term) (i : ℕ) (t : Term) → i < length ts → t ≡ get_or ts i t
-    → mention name (views (drop i ts)) ≡ (mention name (single (view t)) || mention name (views (drop (i + 1) ts)))
-mention_split name ts i t inside is =
-    ap (λ (l : List Term). mention name (views l)) (dropped ts i t inside is) ∙ mention_first name t (drop (i + 1) ts)
+pub any_split : (p : Head → Bool) (ts : List Term) (i : ℕ) (t : Term) → i < length ts → t ≡ get_or ts i t
+    → any p (views (drop i ts)) ≡ (any p (single (view t)) || any p (views (drop (i + 1) ts)))
+any_split p ts i t inside is =
+    ap (λ (l : List Term). any p (views l)) (dropped ts i t inside is) ∙ any_first p t (drop (i + 1) ts)
 
 -- of a term, and of its children in two lists
-module _ (name : List ℕ) (t : Term) (h : Head) (w : ℕ) (a b : List Term) (apart : IsApart t h w a b) where
-  mention_over : (may_name name h || (mention name (views a) || mention name (views b))) ≡ mention name (single (view t))
-  mention_over =
-      ap (λ (l : Bool). may_name name h || l) (sym (mention_both name a b) ∙ ap (mention name) apart.children ∙ sym (or_false (mention name (view t).2)))
-      ∙ ap (λ (k : Head). may_name name k || (mention name (view t).2 || false)) apart.head
+module _ (p : Head → Bool) (t : Term) (h : Head) (w : ℕ) (a b : List Term) (apart : IsApart t h w a b) where
+  any_over : (p h || (any p (views a) || any p (views b))) ≡ any p (single (view t))
+  any_over =
+      ap (λ (l : Bool). p h || l) (sym (any_both p a b) ∙ ap (any p) apart.children ∙ sym (or_false (any p (view t).2)))
+      ∙ ap (λ (k : Head). p k || (any p (view t).2 || false)) apart.head
 
-  mention_after : (r : Bool) → may_name name h ≡ false → r ≡ (mention name (views a) || mention name (views b)) → r ≡ mention name (single (view t))
-  mention_after r none is = is ∙ ap (λ (l : Bool). l || (mention name (views a) || mention name (views b))) (sym none) ∙ mention_over
+  any_after : (r : Bool) → p h ≡ false → r ≡ (any p (views a) || any p (views b)) → r ≡ any p (single (view t))
+  any_after r none is = is ∙ ap (λ (l : Bool). l || (any p (views a) || any p (views b))) (sym none) ∙ any_over
 
-  pub mention_in_first : may_name name h ≡ false → mention name (views a) ≡ true → true ≡ mention name (single (view t))
-  mention_in_first none holds = mention_after true none (ap (λ (l : Bool). l || mention name (views b)) (sym holds))
+  pub any_in_first : p h ≡ false → any p (views a) ≡ true → true ≡ any p (single (view t))
+  any_in_first none holds = any_after true none (ap (λ (l : Bool). l || any p (views b)) (sym holds))
 
-  pub mention_in_others : (r : Bool) → may_name name h ≡ false → mention name (views a) ≡ false → r ≡ mention name (views b) → r ≡ mention name (single (view t))
-  mention_in_others r none first is = mention_after r none (is ∙ ap (λ (l : Bool). l || mention name (views b)) (sym first))
+  pub any_in_others : (r : Bool) → p h ≡ false → any p (views a) ≡ false → r ≡ any p (views b) → r ≡ any p (single (view t))
+  any_in_others r none first is = any_after r none (is ∙ ap (λ (l : Bool). l || any p (views b)) (sym first))
 
 -- ---- loops over objects
 
@@ -80,14 +81,14 @@ differs_split own terms scope ms i m inside is =
 -- ---- scopes around a scope
 
 module _ (all : List Callee) where
-  near_more : (n : ℕ) (scope : List ℕ) → 0 < n → near n scope all ≡ made_in scope all ++ near (n - 1) (outer scope) all
+  near_more : (n : ℕ) (scope : List ℕ) → 0 < n → near n scope all ≡ made_in scope all ++ near (n - 1) (parent scope) all
   near_more zero scope some = absurd (omega (arith, some))
-  near_more (suc n) scope some = let same : n ≡ suc n - 1 = omega arith in ap (λ (k : ℕ). made_in scope all ++ near k (outer scope) all) same
+  near_more (suc n) scope some = let same : n ≡ suc n - 1 = omega arith in ap (λ (k : ℕ). made_in scope all ++ near k (parent scope) all) same
 
-  pub near_added : (n : ℕ) (scope inner : List ℕ) (old one new : Counts) → 0 < n → inner ≡ outer scope → one ≡ with_all old (made_in scope all)
+  pub near_added : (n : ℕ) (scope inner : List ℕ) (old one new : Counts) → 0 < n → inner ≡ parent scope → one ≡ with_all old (made_in scope all)
       → new ≡ with_all one (near (n - 1) inner all) → new ≡ with_all old (near n scope all)
   near_added n scope inner old one new some into p q =
-      let rest = near (n - 1) (outer scope) all in
+      let rest = near (n - 1) (parent scope) all in
       q ∙ ap (λ (s : List ℕ). with_all one (near (n - 1) s all)) into ∙ ap (λ (l : Counts). with_all l rest) p
       ∙ sym (both_added old (made_in scope all) rest) ∙ ap (with_all old) (sym (near_more n scope some))
 
@@ -95,13 +96,13 @@ module _ (all : List Callee) where
       → found ≡ differ own terms (near n scope all)
   differs_first own terms zero scope found is holds = is
   differs_first own terms (suc n) scope found is holds =
-      holds ∙ ap (λ (t : Bool). t || differ own terms (near n (outer scope) all)) (sym holds ∙ is) ∙ sym (differ_both own terms (made_in scope all) (near n (outer scope) all))
+      holds ∙ ap (λ (t : Bool). t || differ own terms (near n (parent scope) all)) (sym holds ∙ is) ∙ sym (differ_both own terms (made_in scope all) (near n (parent scope) all))
 
-  pub differs_after : (own : Counts) (terms : Terms) (n : ℕ) (scope inner : List ℕ) (first found : Bool) → 0 < n → inner ≡ outer scope
+  pub differs_after : (own : Counts) (terms : Terms) (n : ℕ) (scope inner : List ℕ) (first found : Bool) → 0 < n → inner ≡ parent scope
       → first ≡ differ own terms (made_in scope all) → first ≡ false → found ≡ differ own terms (near (n - 1) inner all)
       → found ≡ differ own terms (near n scope all)
   differs_after own terms n scope inner first found some into is fails p =
-      let rest = near (n - 1) (outer scope) all in
+      let rest = near (n - 1) (parent scope) all in
       p ∙ ap (λ (s : List ℕ). differ own terms (near (n - 1) s all)) into ∙ ap (λ (t : Bool). t || differ own terms rest) (sym fails ∙ is)
       ∙ sym (differ_both own terms (made_in scope all) rest) ∙ ap (differ own terms) (sym (near_more n scope some))
 
@@ -155,24 +156,16 @@ module _ (stated : Counts) (all : List Callee) (own : Counts) (scope : List ℕ)
 
 -- ---- terms that stay
 
-near_none : (n : ℕ) (scope : List ℕ) → near n scope [] ≡ []
-near_none zero scope = refl
-near_none (suc n) scope = near_none n (outer scope)
-
 of_body : {A B C : Type 0} (b : Body) → A → B → C → OfBody b A B C
 of_body space a b c = a
 of_body code a b c = b
 of_body other a b c = c
 
 module _ (stated own : Counts) where
-  same_body : (scope : List ℕ) (ts : Terms) → IsBody stated [] own scope ts ts
-  same_body scope ts =
-      subst (λ (l : Counts). AreIfRead (differ own ts l) (numbers_in stated [] scope) ts ts) (sym (near_none (length scope / 5) scope)) refl
-
   same_scoped : (scope : List ℕ) (ts : Terms) → AreScoped stated [] own scope ts ts
   same_scoped scope end = tt
   same_scoped scope (term h w c others) =
-      (refl, refl, of_body (body h) (same_scoped (inside scope h) c) (same_body (inside scope h) c) refl, same_scoped scope others)
+      (refl, refl, of_body (body h) (same_scoped (inside scope h) c) refl refl, same_scoped scope others)
 
   -- without objects that calls may name
   pub scoped_kept : (scope : List ℕ) (all : List Object) (found : List Callee) (ts : Terms) → length all ≡ 0 → map callee_by all ≡ found

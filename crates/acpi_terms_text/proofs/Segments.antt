@@ -1,15 +1,17 @@
 -- Segments, and lists of the objects whose names end in them.
 use Rattle.std.proofs.Common.{◌≡◌, ℕ, ◌<◌, ◌≤◌, ◌==◌, ◌||◌, not, Bool, true, false, if◌then◌else◌, Option, Some, None, List, [], ◌∷◌, ◌++◌, length, get_or, refl, sym, ap, ◌∙◌, append_assoc, arith}
 use Rattle.std.proofs.lemmas.List.{append-nil}
+use Rattle.std.specs.Str.{bytes_eq}
 use Rattle.acpi_term.specs.Arity.{arity, with_all}
 use Rattle.acpi_term.specs.Name.{is_segment, no_more, one_more, single as one_segment, relative, IsNameString, as_written}
 use Rattle.acpi_term.specs.Tree.{Entry, named, reserved, access_as, extended_access_as, connection, connection_buffer, Head, number, ones, string, local, arg, call, def_scope, def_device, def_method, def_power_res, def_field, def_op_region, def_name, def_mutex, def_acquire, def_release, def_buffer, def_package, def_var_package, def_if, def_while, def_else, op, def_external, def_leveled_method, def_processor, def_thermal_zone, def_roomy_package, def_index_field, def_bank_field, def_fatal, match_test, unread, Terms, end, term}
 use Rattle.acpi_term.specs.View.{view, views, single, IsApart}
 use Rattle.acpi_term.specs.declared.term.Term.{Term}
 use Rattle.acpi_terms_text.specs.declared.objects.Kept.{Kept}
-use Rattle.acpi_terms_text.specs.declared.objects.Kept.TheVariants.{All, Among}
+use Rattle.acpi_terms_text.specs.declared.objects.Kept.TheVariants.{All, Among, In}
 use Rattle.acpi_terms_text.specs.Objects.{inside, is_method, Callee, makes, if_named, as_segment, own_unit, own_units, own_external, made_by, name_at, own_operand, own_objects, objects}
-use Rattle.acpi_terms_text.specs.Objects.{segment, own_segment, segments, all_among, segment_of, own_segments, segments_in, if_kept, all_kept}
+use Rattle.acpi_terms_text.specs.Objects.{own_segment, segments, all_among, segment_of, own_segments, segments_in, has_segment, if_kept, all_kept, named_in}
+use Rattle.acpi_terms_text.specs.Path.{last_segment}
 use Rattle.acpi_terms_text.proofs.Walks.{both_added, objects_step, objects_over}
 
 -- four bytes that are a segment are a name
@@ -21,6 +23,23 @@ is_name (a ∷ b ∷ []) least most holds = absurd (omega (arith, least))
 is_name (a ∷ b ∷ c ∷ []) least most holds = absurd (omega (arith, least))
 is_name (a ∷ b ∷ c ∷ d ∷ []) least most holds = as_written (relative (one_segment (one_more holds no_more)))
 is_name (a ∷ b ∷ c ∷ d ∷ e ∷ s) least most holds = absurd (omega (arith, most))
+
+-- bytes that begin with a segment have it
+pub begins_with : (bytes segment : List ℕ) → 4 ≤ length bytes
+    → bytes_eq (get_or bytes 0 0 ∷ get_or bytes 1 0 ∷ get_or bytes 2 0 ∷ get_or bytes 3 0 ∷ []) segment ≡ true → has_segment bytes segment ≡ true
+begins_with [] segment some is = absurd (omega (arith, some))
+begins_with (a ∷ []) segment some is = absurd (omega (arith, some))
+begins_with (a ∷ b ∷ []) segment some is = absurd (omega (arith, some))
+begins_with (a ∷ b ∷ c ∷ []) segment some is = absurd (omega (arith, some))
+begins_with (a ∷ b ∷ c ∷ d ∷ bytes) segment some is = ap (λ (t : Bool). t || has_segment (b ∷ c ∷ d ∷ bytes) segment) is
+
+-- fewer than four bytes have none
+pub too_few : (bytes segment : List ℕ) → length bytes < 4 → has_segment bytes segment ≡ false
+too_few [] segment few = refl
+too_few (a ∷ []) segment few = refl
+too_few (a ∷ b ∷ []) segment few = refl
+too_few (a ∷ b ∷ c ∷ []) segment few = refl
+too_few (a ∷ b ∷ c ∷ d ∷ bytes) segment few = absurd (omega (arith, few))
 
 -- ---- the objects that are kept
 
@@ -34,6 +53,7 @@ not_branch false x y = refl
 abbrev pub kept_as : Kept → Callees → Callees
 kept_as All all = all
 kept_as (Among among) all = all_among among.now all
+kept_as (In bytes) all = named_in bytes.now all
 
 pub kept_is : (k : Kept) (all : Callees) → all_kept k all ≡ kept_as k all
 kept_is All [] = refl
@@ -41,7 +61,9 @@ kept_is All (m ∷ all) = ap (λ (l : Callees). m ∷ l) (kept_is All all)
 kept_is (Among among) [] = refl
 kept_is (Among among) (m ∷ all) =
     ap (λ (l : Callees). if_kept (Among among) m ++ l) (kept_is (Among among) all)
-    ∙ ap (λ (l : Callees). l ++ all_among among.now all) (not_branch (arity among.now (segment m.name) == 0) (m ∷ []) [])
+    ∙ ap (λ (l : Callees). l ++ all_among among.now all) (not_branch (arity among.now (last_segment m.name) == 0) (m ∷ []) [])
+kept_is (In bytes) [] = refl
+kept_is (In bytes) (m ∷ all) = ap (λ (l : Callees). if_kept (In bytes) m ++ l) (kept_is (In bytes) all)
 
 pub kept_both : (k : Kept) (a b : Callees) → all_kept k (a ++ b) ≡ all_kept k a ++ all_kept k b
 kept_both k [] b = refl

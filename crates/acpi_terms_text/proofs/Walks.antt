@@ -1,12 +1,13 @@
 -- Walks over terms and their children.
-use Rattle.std.proofs.Common.{◌≡◌, ℕ, suc, ◌+◌, ◌-◌, ◌<◌, ◌≤◌, Bool, List, [], ◌∷◌, ◌++◌, length, get_or, drop, refl, sym, ap, ◌∙◌, append_assoc, arith}
-use Rattle.std.proofs.lemmas.List.{append-nil}
+use Rattle.std.proofs.Common.{◌≡◌, ℕ, suc, ◌+◌, ◌-◌, ◌<◌, ◌≤◌, Bool, List, [], ◌∷◌, ◌++◌, false, length, get_or, take, drop, refl, sym, ap, ◌∙◌, append_assoc, arith}
+use Rattle.std.proofs.lemmas.List.{append-nil, take_all}
 use Rattle.acpi_term.specs.declared.term.Term.{Term}
 use Rattle.acpi_term.specs.Arity.{with_new, with_all}
 use Rattle.acpi_term.specs.Tree.{Head}
 use Rattle.acpi_term.specs.View.{view, views, single, IsApart}
 use Rattle.acpi_read.proofs.Texts.{dropped}
-use Rattle.acpi_terms_text.specs.Objects.{inside, Callee, own_objects, numbers_of, numbers_from, objects}
+use Rattle.acpi_term.specs.PathText.{name_of_segments}
+use Rattle.acpi_terms_text.specs.Objects.{counted, from_each, inside, Callee, own_objects, numbers_of, numbers_from, objects}
 use Rattle.acpi_terms_text.specs.Comment.{has_ids, has_size, note}
 use Rattle.acpi_terms_text.specs.Woven.{entry_notes, notes}
 
@@ -27,6 +28,24 @@ counts_on {X} each os i o one now new whole inside is step added before =
     let rest = each (drop (i + 1) os) in
     ap (λ (l : Counts). with_all l rest) added ∙ sym (both_added now one rest) ∙ ap (with_all now) (sym step)
     ∙ ap (λ (l : List X). with_all now (each l)) (sym (dropped os i o inside is)) ∙ before
+
+-- of the segments of a path from each on
+each_on : (n : ℕ) (path : List ℕ) → 4 ≤ length path
+    → from_each n path ≡ counted n (name_of_segments false path) ++ from_each n (take (length path - 4) (drop 4 path))
+each_on n [] some = absurd (omega (arith, some))
+each_on n (a ∷ []) some = absurd (omega (arith, some))
+each_on n (a ∷ b ∷ []) some = absurd (omega (arith, some))
+each_on n (a ∷ b ∷ c ∷ []) some = absurd (omega (arith, some))
+each_on n (a ∷ b ∷ c ∷ d ∷ path) some =
+    ap (λ (l : List ℕ). counted n (name_of_segments false (a ∷ b ∷ c ∷ d ∷ path)) ++ from_each n l)
+    (sym (take_all (length (a ∷ b ∷ c ∷ d ∷ path) - 4) path (omega arith)))
+
+pub each_added : (n : ℕ) (path : List ℕ) (now new whole : Counts) → 4 ≤ length path → new ≡ with_all now (counted n (name_of_segments false path))
+    → with_all now (from_each n path) ≡ whole → with_all new (from_each n (take (length path - 4) (drop 4 path))) ≡ whole
+each_added n path now new whole some added before =
+    let rest = from_each n (take (length path - 4) (drop 4 path)) in
+    ap (λ (l : Counts). with_all l rest) added ∙ sym (both_added now (counted n (name_of_segments false path)) rest)
+    ∙ ap (with_all now) (sym (each_on n path some)) ∙ before
 
 -- of the numbers from k to 7
 numbers_more : (n k : ℕ) (all : List Callee) → k < n → numbers_from (n - k) k all ≡ numbers_of k all ++ numbers_from (n - (k + 1)) (k + 1) all

@@ -3,7 +3,7 @@ use Rattle.std.specs.Prelude.{◌≡◌, ℕ, suc, ◌-◌, ◌^◌, nat_lt, ◌
 use Rattle.std.specs.Prelude.{List, [], ◌∷◌, ◌++◌, length, drop, codes}
 use Rattle.std.specs.Str.{bytes_eq}
 use Rattle.acpi_term.specs.declared.language.Language.TheVariants.{Standard}
-use Rattle.acpi_term.specs.Language.{grammar_of}
+use Rattle.acpi_term.specs.Arity.{grammar_by}
 use Rattle.acpi_term.specs.Tree.{Head, number, def_name, def_buffer, def_package, def_roomy_package, Terms, end, term, count}
 use Rattle.acpi_read.specs.Lines.{head_text, line, own_lines, term_suffix}
 use Rattle.acpi_read.specs.Terms.{AreReadIn}
@@ -69,8 +69,8 @@ noted_lines ids d (term h w children others) =
 abbrev pub annotated : Terms → List ℕ
 annotated ts = noted_lines false 0 ts
 
--- The bytes spell these terms, and the text is their report with its comments.
-pub record IsAnnotated (arity : List ℕ → ℕ) (bytes text : List ℕ) : Type 0 where
+-- The bytes spell these terms with the stated numbers of arguments, and the text is their report with its comments.
+pub record IsAnnotated (stated : List (List ℕ × ℕ)) (bytes text : List ℕ) : Type 0 where
   pub terms : Terms
-  pub read : AreReadIn (grammar_of Standard arity) bytes terms
+  pub read : AreReadIn (grammar_by Standard stated) bytes terms
   pub is : text ≡ annotated terms

@@ -1,3 +1,4 @@
+pub mod Path
 pub mod Objects
 pub mod Scoped
 pub mod Eisa

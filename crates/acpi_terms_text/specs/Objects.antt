@@ -1,68 +1,58 @@
 -- The objects of a definition block, and how many arguments the methods of them take by the names of calls.
-use Rattle.std.specs.Prelude.{◌≡◌, ℕ, zero, suc, ◌==◌, ◌-◌, nat_le, ◌&&◌, ◌||◌, not, Bool, true, if◌then◌else◌}
-use Rattle.std.specs.Prelude.{List, [], ◌∷◌, ◌++◌, length, drop, Option, Some, None, codes, string_bytes}
-use Rattle.acpi_term.specs.Arity.{arity, with_all}
+use Rattle.std.specs.Prelude.{◌≡◌, ℕ, zero, suc, ◌==◌, nat_le, ◌&&◌, ◌||◌, not, Bool, true, false, if◌then◌else◌}
+use Rattle.std.specs.Prelude.{List, [], ◌∷◌, ◌++◌, Option, Some, None, codes}
+use Rattle.std.specs.Str.{bytes_eq}
+use Rattle.acpi_term.specs.Arity.{arity, grammar_by, with_all}
 use Rattle.acpi_term.specs.declared.language.Language.TheVariants.{Standard}
-use Rattle.acpi_term.specs.Language.{grammar_of}
 use Rattle.acpi_term.specs.Name.{is_segment}
-use Rattle.acpi_term.specs.PathText.{is_rooted, unrooted, path_spelling, is_name_text}
+use Rattle.acpi_term.specs.PathText.{name_of_segments}
+use Rattle.acpi_terms_text.specs.Path.{path_in, last_segment}
 use Rattle.acpi_terms_text.specs.declared.objects.Object.{Object}
 use Rattle.acpi_terms_text.specs.declared.objects.Kept.{Kept}
-use Rattle.acpi_terms_text.specs.declared.objects.Kept.TheVariants.{All, Among}
+use Rattle.acpi_terms_text.specs.declared.objects.Kept.TheVariants.{All, Among, In}
 use Rattle.acpi_term.specs.Tree.{Entry, named, Head, call, op, def_scope, def_device, def_method, def_power_res, def_field}
 use Rattle.acpi_term.specs.Tree.{def_op_region, def_name, def_mutex, def_external, def_leveled_method, def_processor}
 use Rattle.acpi_term.specs.Tree.{def_thermal_zone, def_index_field, def_bank_field, Terms, end, term}
 use Rattle.acpi_term.specs.declared.op.Op.{Op}
 use Rattle.acpi_term.specs.declared.op.Op.TheVariants as ops
-use Rattle.acpi_read.specs.Lines.{name_text}
 use Rattle.acpi_read.specs.InPart.{AreReadInPart}
 
--- ---- paths as texts, without a root
-
--- the path of a name in a scope: from the root if the name has one, and otherwise after the scope's path and a dot (ACPI 6.5, 5.3)
-abbrev pub placed : List ℕ → List ℕ → List ℕ
-placed scope text = if is_rooted text then unrooted text else scope ++ text
-
--- the path of a scope, and a dot: what the paths of the names in it begin with
-abbrev pub opened : List ℕ → List ℕ → List ℕ
-opened scope name = placed scope (name_text name) ++ 0x2e ∷ []
+-- ---- scopes
 
 -- the scope of a head's children; that of the root is empty
 abbrev pub inside : List ℕ → Head → List ℕ
-inside scope (def_scope name) = opened scope name
-inside scope (def_device name) = opened scope name
-inside scope (def_method name args serialized) = opened scope name
-inside scope (def_power_res name level order) = opened scope name
-inside scope (def_leveled_method name args serialized level) = opened scope name
-inside scope (def_processor name id address size) = opened scope name
-inside scope (def_thermal_zone name) = opened scope name
+inside scope (def_scope name) = path_in scope name
+inside scope (def_device name) = path_in scope name
+inside scope (def_method name args serialized) = path_in scope name
+inside scope (def_power_res name level order) = path_in scope name
+inside scope (def_leveled_method name args serialized level) = path_in scope name
+inside scope (def_processor name id address size) = path_in scope name
+inside scope (def_thermal_zone name) = path_in scope name
 inside scope _ = scope
 
 -- ---- the names of an object
 
--- the texts after each dot
-abbrev pub after_dots : List ℕ → List (List ℕ)
-after_dots [] = []
-after_dots (c ∷ text) = if c == 0x2e then text ∷ after_dots text else after_dots text
+-- a number of arguments for a name, if there is one
+abbrev pub counted : ℕ → Option (List ℕ) → List (List ℕ × ℕ)
+counted n None = []
+counted n (Some name) = (name, n) ∷ []
 
--- the names by which a path is called: the path from the root, the path without a root, and from each further segment on
-abbrev pub calls : List ℕ → List (List ℕ)
-calls path = (0x5c ∷ path) ∷ path ∷ after_dots path
+-- for the names of a path's segments from each on
+abbrev pub from_each : ℕ → List ℕ → List (List ℕ × ℕ)
+from_each n (a ∷ b ∷ c ∷ d ∷ path) = counted n (name_of_segments false (a ∷ b ∷ c ∷ d ∷ path)) ++ from_each n path
+from_each n _ = []
 
--- a number of arguments for the name of a text; a path of more than 255 segments has no name
-abbrev pub stated : ℕ → List ℕ → List (List ℕ × ℕ)
-stated n text = if is_name_text text then (path_spelling text, n) ∷ [] else []
-
-abbrev pub all_stated : ℕ → List (List ℕ) → List (List ℕ × ℕ)
-all_stated n [] = []
-all_stated n (text ∷ texts) = stated n text ++ all_stated n texts
+-- For the names by which a path is called: that from the root, that without the root, and those from each further segment on. A
+-- path of more than 255 segments has no name.
+abbrev pub calls : ℕ → List ℕ → List (List ℕ × ℕ)
+calls n path = counted n (name_of_segments true path) ++ from_each n path
 
 -- whether an external object is a method, whose number of arguments is there (ACPI 6.5, 19.6.44 and 20.2.5.2, DefExternal)
 abbrev pub is_method : ℕ → ℕ → Bool
 is_method kind args = kind == 8 && nat_le args 7
 
--- An object that a call may name: its path, its name in the term that makes it, and the number of its arguments. Only methods have
--- arguments.
+-- An object that a call may name: its path, its name in the term that makes it, and the number of its arguments. Only methods
+-- have arguments.
 pub record Callee : Type 0 where
   pub path : List ℕ
   pub name : List ℕ
@@ -72,11 +62,11 @@ abbrev pub callee : List ℕ → List ℕ → ℕ → Callee
 callee p n k = record { path = p; name = n; args = k }
 
 abbrev pub callee_by : Object → Callee
-callee_by o = callee (string_bytes o.path) o.name o.args
+callee_by o = callee o.path.items o.name o.args
 
 -- one object, by its name in a scope
 abbrev pub makes : List ℕ → List ℕ → ℕ → List Callee
-makes scope name args = callee (placed scope (name_text name)) name args ∷ []
+makes scope name args = callee (path_in scope name) name args ∷ []
 
 -- an object without arguments, if there is a name for it
 abbrev pub if_named : List ℕ → Option (List ℕ) → List Callee
@@ -154,18 +144,9 @@ objects scope (term h w children others) =
 
 -- ---- the objects whose number of arguments matters
 
--- the last segment of a name
-abbrev pub segment : List ℕ → List ℕ
-segment name = drop (length name - 4) name
-
--- the number of arguments of a segment
-abbrev pub counted : ℕ → Option (List ℕ) → List (List ℕ × ℕ)
-counted args None = []
-counted args (Some name) = (name, args) ∷ []
-
 -- the last segment of a method with arguments
 abbrev pub own_segment : Callee → List (List ℕ × ℕ)
-own_segment m = if m.args == 0 then [] else counted m.args (as_segment (segment m.name))
+own_segment m = if m.args == 0 then [] else counted m.args (as_segment (last_segment m.name))
 
 abbrev pub segments : List Callee → List (List ℕ × ℕ)
 segments [] = []
@@ -173,7 +154,7 @@ segments (m ∷ all) = own_segment m ++ segments all
 
 -- an object, if its last segment is one of these
 abbrev pub if_among : List (List ℕ × ℕ) → Callee → List Callee
-if_among among m = if arity among (segment m.name) == 0 then [] else m ∷ []
+if_among among m = if arity among (last_segment m.name) == 0 then [] else m ∷ []
 
 abbrev pub all_among : List (List ℕ × ℕ) → List Callee → List Callee
 all_among among [] = []
@@ -187,7 +168,7 @@ callees all = all_among (with_all [] (segments all)) all
 
 -- the last segment of the name of a method with arguments
 abbrev pub segment_of : List ℕ → ℕ → List (List ℕ × ℕ)
-segment_of name args = if args == 0 then [] else counted args (as_segment (segment name))
+segment_of name args = if args == 0 then [] else counted args (as_segment (last_segment name))
 
 -- that of the method that a head makes, or declares as external
 abbrev pub own_segments : Head → List (List ℕ × ℕ)
@@ -201,24 +182,35 @@ abbrev pub segments_in : Terms → List (List ℕ × ℕ)
 segments_in end = []
 segments_in (term h w children others) = own_segments h ++ (segments_in children ++ segments_in others)
 
+-- whether bytes have a segment somewhere
+abbrev pub has_segment : List ℕ → List ℕ → Bool
+has_segment (a ∷ b ∷ c ∷ d ∷ bytes) segment = bytes_eq (a ∷ b ∷ c ∷ d ∷ []) segment || has_segment (b ∷ c ∷ d ∷ bytes) segment
+has_segment _ segment = false
+
 -- whether an object of this name is kept
 abbrev pub keeps : Kept → List ℕ → Bool
 keeps All name = true
-keeps (Among among) name = not (arity among.now (segment name) == 0)
+keeps (Among among) name = not (arity among.now (last_segment name) == 0)
+keeps (In bytes) name = has_segment bytes.now (last_segment name)
 
 abbrev pub if_kept : Kept → Callee → List Callee
 if_kept kept m = if keeps kept m.name then m ∷ [] else []
 
--- the objects that are kept: all of them, or those of `all_among` (`kept_is`)
+-- the objects that are kept: all of them, those of `all_among`, or those of `named_in` (`kept_is`)
 abbrev pub all_kept : Kept → List Callee → List Callee
 all_kept kept [] = []
 all_kept kept (m ∷ all) = if_kept kept m ++ all_kept kept all
+
+-- the objects whose last segment is somewhere in bytes: the bytes of terms name no other
+abbrev pub named_in : List ℕ → List Callee → List Callee
+named_in bytes [] = []
+named_in bytes (m ∷ all) = (if has_segment bytes (last_segment m.name) then m ∷ [] else []) ++ named_in bytes all
 
 -- ---- numbers of arguments
 
 -- the number of arguments of an object, for the names by which its path is called
 abbrev pub numbers : Callee → List (List ℕ × ℕ)
-numbers m = all_stated m.args (calls m.path)
+numbers m = calls m.args m.path
 
 -- the same of the objects with this number of arguments
 abbrev pub numbers_of : ℕ → List Callee → List (List ℕ × ℕ)
@@ -236,21 +228,21 @@ called all = numbers_from 8 0 all
 
 -- the names of the method that the operating system has: _OSI takes one argument (ACPI 6.5, 5.7.2)
 abbrev pub predefined : List (List ℕ × ℕ)
-predefined = all_stated 1 (calls (codes "_OSI"))
+predefined = calls 1 (codes "_OSI")
 
 -- what calls may name in a block's terms: its objects, and those of further blocks, which have the same namespace
 abbrev pub all_callees : Terms → List Callee → List Callee
 all_callees terms further = callees (objects [] terms ++ further)
 
--- The numbers that a caller states, those of objects, and those of the operating system. If there are several for a name, the first
--- one holds.
+-- The numbers that a caller states, those of objects, and those of the operating system. If there are several for a name, the
+-- first one holds.
 abbrev pub own_numbers : List (List ℕ × ℕ) → List Callee → List (List ℕ × ℕ)
 own_numbers stated all = with_all (with_all stated (called all)) predefined
 
 -- The objects of the terms that can be read of bytes, with the stated numbers.
 pub record AreObjectsIn (stated : List (List ℕ × ℕ)) (bytes : List ℕ) (all : List Callee) : Type 0 where
   pub terms : Terms
-  pub read : AreReadInPart (grammar_of Standard (arity stated)) bytes terms
+  pub read : AreReadInPart (grammar_by Standard stated) bytes terms
   pub is : all ≡ objects [] terms
 
 -- They were added to others.

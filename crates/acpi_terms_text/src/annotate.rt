@@ -1,9 +1,8 @@
 //! The report of terms with comments.
 
 ghost use Rattle.std.specs.Prelude.{◌≡◌, ℕ, List, ◌++◌, ◌∷◌, [], map, IfOk, IfErr, OnOk, string_bytes};
-ghost use Rattle.acpi_term.specs.Arity.{arity};
+ghost use Rattle.acpi_term.specs.Arity.{grammar_by};
 ghost use Rattle.acpi_term.specs.declared.language.Language.TheVariants.{Standard};
-ghost use Rattle.acpi_term.specs.Language.{grammar_of};
 ghost use Rattle.acpi_read.specs.Terms.{IsUnreadIn};
 ghost use Rattle.acpi_terms_text.specs.Comment.{comment, IsAnnotated};
 ghost use Rattle.acpi_terms_text.specs.Woven.{woven};
@@ -61,8 +60,8 @@ fn push_woven(lines: &str, notes: &[String], text: &mut String) -> Result<(), Al
 ///
 /// The errors are those of `acpi_read::terms::standard_terms`.
 pub fn annotated(alloc: Global, bytes: &[u8], arities: &Arities) -> Result<String, ReadError>
-    ensures ok { IfOk result (λ text. IsAnnotated (arity arities.now) bytes.now (string_bytes text)) }
-    ensures err { IfErr result (IsUnreadIn (grammar_of Standard (arity arities.now)) bytes.now) }
+    ensures ok { IfOk result (λ text. IsAnnotated arities.now bytes.now (string_bytes text)) }
+    ensures err { IfErr result (IsUnreadIn (grammar_by Standard arities.now) bytes.now) }
 {
     let terms = standard_terms(bytes, arities)?;
     let lines = report_terms(alloc, &terms)?;

@@ -7,5 +7,6 @@ mod eisa;
 pub mod laws;
 mod note;
 pub mod objects;
+pub mod path;
 pub mod scoped;
 pub mod uuid;

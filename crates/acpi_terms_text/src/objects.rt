@@ -1,22 +1,21 @@
 //! The objects of a definition block, and how many arguments the methods of them take.
 
-ghost use Rattle.std.specs.Prelude.{◌≡◌, ◌==◌, ◌++◌, OnOk, IfOk, IfErr, string_bytes, [], ◌∷◌, map, unwrap_or, if◌then◌else◌};
+ghost use Rattle.std.specs.Prelude.{◌≡◌, ◌==◌, ◌++◌, OnOk, IfOk, [], ◌∷◌, map, unwrap_or, if◌then◌else◌};
 ghost use Rattle.std.specs.Option.{option_map};
+ghost use Rattle.std.specs.Str.{bytes_eq};
 ghost use Rattle.acpi_term.specs.Arity.{arity, with_all, with_new};
-ghost use Rattle.acpi_term.specs.PathText.{is_name_text};
+ghost use Rattle.acpi_term.specs.PathText.{name_of_segments};
 ghost use Rattle.acpi_term.specs.View.{entry_view, head_of, view, views, single};
-ghost use Rattle.acpi_read.specs.Lines.{name_text};
-ghost use Rattle.acpi_term.specs.declared.language.Language.TheVariants.{Standard};
-ghost use Rattle.acpi_term.specs.Language.{grammar_of};
-ghost use Rattle.acpi_terms_text.specs.Objects.{placed, opened, inside, after_dots, calls, stated, all_stated};
-ghost use Rattle.acpi_terms_text.specs.Objects.{is_method, callee, callee_by, makes, as_segment, own_unit, own_units, own_external};
+ghost use Rattle.acpi_terms_text.specs.Objects.{inside, counted, from_each, calls};
+ghost use Rattle.acpi_terms_text.specs.Objects.{is_method, callee, callee_by, makes, as_segment};
+ghost use Rattle.acpi_terms_text.specs.Objects.{own_unit, own_units, own_external};
 ghost use Rattle.acpi_terms_text.specs.Objects.{made_by, name_of, name_at, own_operand, own_objects, objects};
-ghost use Rattle.acpi_terms_text.specs.Objects.{segment, segment_of, segments, segments_in, own_segments, all_among, all_callees};
-ghost use Rattle.acpi_terms_text.specs.Objects.{keeps, all_kept};
+ghost use Rattle.acpi_terms_text.specs.Objects.{segment_of, segments, segments_in, own_segments, all_among, all_callees};
+ghost use Rattle.acpi_terms_text.specs.Objects.{has_segment, keeps, all_kept};
 ghost use Rattle.acpi_terms_text.specs.Objects.{numbers, numbers_of, called, predefined, own_numbers};
 ghost use Rattle.acpi_terms_text.specs.Objects.{AreOwn, AddObjectsIn};
 
-use acpi_read::report::words::push_named;
+use crate::path::{last_segment, path_in};
 use acpi_read::terms::in_part::terms_in_part;
 use acpi_term::apart::{Kind, parts_of};
 use acpi_term::name_string::{Arities, NameString, name_of};
@@ -26,42 +25,9 @@ use acpi_term::segment::is_segment;
 use acpi_term::term::{Term, TermEntry};
 use std::alloc::{AllocError, Global};
 
-// Adds the path of the text of a name in a scope.
-fn push_placed(scope: &str, text: &str, path: &mut String) -> Result<(), AllocError>
-    ensures { OnOk result (string_bytes path.new ≡ string_bytes path.old ++ placed scope.now text.now) }
-{
-    let Some(rest) = text.strip_prefix('\\') else {
-        path.push_str(scope)?;
-        path.push_str(text)?;
-        return Ok(());
-    };
-    path.push_str(rest)?;
-    Ok(())
-}
-
-// The path of a name in a scope.
-fn placed(alloc: Global, scope: &str, name: &NameString) -> Result<String, AllocError>
-    ensures { IfOk result (λ path. string_bytes path ≡ placed scope.now (name_text name.now)) }
-{
-    let mut text = String::new(alloc);
-    push_named("", name, &mut text)?;
-    let mut path = String::new(alloc);
-    push_placed(scope, text.as_str(), &mut path)?;
-    Ok(path)
-}
-
-// The path of a scope, and a dot.
-pub(crate) fn opened(alloc: Global, scope: &str, name: &NameString) -> Result<String, AllocError>
-    ensures { IfOk result (λ path. string_bytes path ≡ opened scope.now name.now) }
-{
-    let mut path = placed(alloc, scope, name)?;
-    path.push('.')?;
-    Ok(path)
-}
-
 // The scope of a term's children, if it isn't the one around the term.
-fn inside(alloc: Global, scope: &str, kind: Kind<'_>) -> Result<Option<String>, AllocError>
-    ensures { IfOk result (λ own. unwrap_or (option_map (λ path. string_bytes path) own) scope.now
+fn inside(alloc: Global, scope: &[u8], kind: Kind<'_>) -> Result<Option<Vec<u8>>, AllocError>
+    ensures { IfOk result (λ own. unwrap_or (option_map (λ path. path.items) own) scope.now
         ≡ inside scope.now (head_of kind.entry)) }
 {
     match kind {
@@ -71,14 +37,14 @@ fn inside(alloc: Global, scope: &str, kind: Kind<'_>) -> Result<Option<String>, 
         | Kind::PowerResource(name, ..)
         | Kind::LeveledMethod(name, ..)
         | Kind::Processor(name, ..)
-        | Kind::ThermalZone(name) => Ok(Some(opened(alloc, scope, name)?)),
+        | Kind::ThermalZone(name) => Ok(Some(path_in(alloc, scope, name)?)),
         _ => Ok(None),
     }
 }
 
 // The scope of a term's children: its own, or the one around the term.
-fn inner_scope<'a>(scope: &'a String, own: &'a Option<String>) -> &'a String
-    ensures { string_bytes result.now ≡ unwrap_or (option_map (λ path. string_bytes path) own.now) (string_bytes scope.now) }
+fn inner_scope<'a>(scope: &'a [u8], own: &'a Option<Vec<u8>>) -> &'a [u8]
+    ensures { result.now ≡ unwrap_or (option_map (λ path. path.items) own.now) scope.now }
 {
     match own {
         Some(path) => path,
@@ -86,39 +52,40 @@ fn inner_scope<'a>(scope: &'a String, own: &'a Option<String>) -> &'a String
     }
 }
 
-// Adds a number of arguments for the name of a text.
-fn add_text(alloc: Global, text: &str, args: u8, all: &mut Arities) -> Result<(), AllocError>
-    ensures { OnOk result (all.new ≡ with_all all.old (stated args text.now)) }
+// Adds a number of arguments for the name of these segments, if they have one.
+fn add_name(
+    alloc: Global,
+    from_root: bool,
+    segments: &[u8],
+    args: u8,
+    all: &mut Arities,
+) -> Result<(), AllocError>
+    ensures { OnOk result (all.new ≡ with_all all.old (counted args (name_of_segments from_root segments.now))) }
 {
-    match NameString::new(alloc, text) {
-        Ok(name) => all.add(name, args),
-        Err(ReadError::Memory) => Err(AllocError),
-        Err(_) => Ok(()),
+    match NameString::of_segments(alloc, from_root, segments)? {
+        Some(name) => all.add(name, args),
+        None => Ok(()),
     }
 }
 
-// Adds a number of arguments for the texts after each dot.
-fn add_after_dots(alloc: Global, path: &str, args: u8, all: &mut Arities) -> Result<(), AllocError>
-    ensures { OnOk result (all.new ≡ with_all all.old (all_stated args (after_dots path.now))) }
+// Adds a number of arguments for the names of a path's segments from each on.
+fn add_from_each(alloc: Global, path: &[u8], args: u8, all: &mut Arities) -> Result<(), AllocError>
+    ensures { OnOk result (all.new ≡ with_all all.old (from_each args path.now)) }
 {
     let mut rest = path;
-    'dots: while let Some((_, more)) = rest.split_once('.') {
-        add_text(alloc, more, args, all)?;
+    'segments: while let [_, _, _, _, more @ ..] = rest {
+        add_name(alloc, false, rest, args, all)?;
         rest = more;
     }
     Ok(())
 }
 
 // Adds a number of arguments for the names by which a path is called.
-fn add_calls(alloc: Global, path: &str, args: u8, all: &mut Arities) -> Result<(), AllocError>
-    ensures { OnOk result (all.new ≡ with_all all.old (all_stated args (calls path.now))) }
+fn add_calls(alloc: Global, path: &[u8], args: u8, all: &mut Arities) -> Result<(), AllocError>
+    ensures { OnOk result (all.new ≡ with_all all.old (calls args path.now)) }
 {
-    let mut rooted = String::new(alloc);
-    rooted.push('\\')?;
-    rooted.push_str(path)?;
-    add_text(alloc, rooted.as_str(), args, all)?;
-    add_text(alloc, path, args, all)?;
-    add_after_dots(alloc, path, args, all)
+    add_name(alloc, true, path, args, all)?;
+    add_from_each(alloc, path, args, all)
 }
 
 // Returns whether an external object is a method, whose number of arguments is there.
@@ -130,28 +97,45 @@ fn is_method(kind: u8, args: u8) -> bool
 
 // ---- the objects of terms
 
-/// An object that calls may name: its path from the root, without the root, its name in the term that makes it, and the number of
-/// its arguments. Only methods have arguments.
+/// An object that calls may name: its path, its name in the term that makes it, and the number of its arguments. Only methods
+/// have arguments.
 #[derive(Debug, Drop)]
 pub struct Object {
-    pub(crate) path: String,
+    pub(crate) path: Vec<u8>,
     pub(crate) name: NameString,
     pub(crate) args: u8,
 }
 
-// Returns the last segment of a name.
-pub(crate) fn segment(name: &[u8]) -> &[u8]
-    ensures { result.now ≡ segment name.now }
-{
-    &name[name.len().saturating_sub(4)..]
-}
-
 // Which objects are kept.
 #[derive(Clone, Copy)]
-enum Kept<'a> {
+pub(crate) enum Kept<'a> {
     All,
     // Those whose last segment is one of these.
     Among(&'a Arities),
+    // Those whose last segment is in these bytes.
+    In(&'a [u8]),
+}
+
+// Returns whether these four bytes are a segment.
+fn is_four(a: u8, b: u8, c: u8, d: u8, segment: &[u8]) -> bool
+    ensures { result ≡ bytes_eq (a ∷ b ∷ c ∷ d ∷ []) segment.now }
+{
+    let four: &[u8] = &[a, b, c, d];
+    four == segment
+}
+
+// Returns whether bytes have a segment somewhere.
+fn has_segment(bytes: &[u8], segment: &[u8]) -> bool
+    ensures { result ≡ has_segment bytes.now segment.now }
+{
+    let mut rest = bytes;
+    'fours: while let [a, b, c, d, ..] = rest {
+        if is_four(*a, *b, *c, *d, segment) {
+            return true;
+        }
+        rest = &rest[1..];
+    }
+    false
 }
 
 // Returns whether an object of this name is kept.
@@ -160,20 +144,21 @@ fn keeps(kept: Kept<'_>, name: &[u8]) -> bool
 {
     match kept {
         Kept::All => true,
-        Kept::Among(among) => among.count_of(segment(name)) != 0,
+        Kept::Among(among) => among.count_of(last_segment(name)) != 0,
+        Kept::In(bytes) => has_segment(bytes, last_segment(name)),
     }
 }
 
 // Adds an object of a path.
 fn push_at(
     alloc: Global,
-    path: String,
+    path: Vec<u8>,
     name: &NameString,
     args: u8,
     all: &mut Vec<Object>,
 ) -> Result<(), AllocError>
     ensures { OnOk result (map callee_by all.new.items ≡ map callee_by all.old.items
-        ++ callee (string_bytes path) name.now args ∷ []) }
+        ++ callee path.items name.now args ∷ []) }
 {
     let name = name_of(alloc, name.as_bytes())?;
     all.push(Object { path, name, args })?;
@@ -184,7 +169,7 @@ fn push_at(
 fn push_object(
     alloc: Global,
     kept: Kept<'_>,
-    scope: &str,
+    scope: &[u8],
     name: &NameString,
     args: u8,
     all: &mut Vec<Object>,
@@ -195,7 +180,7 @@ fn push_object(
     if !keeps(kept, name.as_bytes()) {
         return Ok(());
     }
-    let path = placed(alloc, scope, name)?;
+    let path = path_in(alloc, scope, name)?;
     push_at(alloc, path, name, args, all)
 }
 
@@ -213,7 +198,7 @@ pub(crate) fn as_segment(alloc: Global, bytes: &[u8]) -> Result<Option<NameStrin
 fn push_unit(
     alloc: Global,
     kept: Kept<'_>,
-    scope: &str,
+    scope: &[u8],
     entry: &TermEntry,
     all: &mut Vec<Object>,
 ) -> Result<(), AllocError>
@@ -233,7 +218,7 @@ fn push_unit(
 fn push_units(
     alloc: Global,
     kept: Kept<'_>,
-    scope: &str,
+    scope: &[u8],
     entries: &[TermEntry],
     all: &mut Vec<Object>,
 ) -> Result<(), AllocError>
@@ -250,7 +235,7 @@ fn push_units(
 fn push_external(
     alloc: Global,
     kept: Kept<'_>,
-    scope: &str,
+    scope: &[u8],
     name: &NameString,
     kind: u8,
     args: u8,
@@ -309,7 +294,7 @@ fn name_at<'a>(place: usize, first: &'a [Term], others: &'a [Term]) -> Option<&'
 fn push_made(
     alloc: Global,
     kept: Kept<'_>,
-    scope: &str,
+    scope: &[u8],
     op: Op,
     first: &[Term],
     others: &[Term],
@@ -331,7 +316,7 @@ fn push_made(
 fn push_own(
     alloc: Global,
     kept: Kept<'_>,
-    scope: &str,
+    scope: &[u8],
     kind: Kind<'_>,
     first: &[Term],
     others: &[Term],
@@ -367,12 +352,12 @@ fn push_own(
 fn push_terms(
     alloc: Global,
     kept: Kept<'_>,
-    scope: &String,
+    scope: &[u8],
     terms: &[Term],
     all: &mut Vec<Object>,
 ) -> Result<(), AllocError>
     ensures { OnOk result (map callee_by all.new.items ≡ map callee_by all.old.items
-        ++ all_kept kept.entry (objects (string_bytes scope.now) (views terms.now))) }
+        ++ all_kept kept.entry (objects scope.now (views terms.now))) }
 {
     for term in terms {
         push_term(alloc, kept, scope, term, all)?;
@@ -384,18 +369,18 @@ fn push_terms(
 fn push_term(
     alloc: Global,
     kept: Kept<'_>,
-    scope: &String,
+    scope: &[u8],
     term: &Term,
     all: &mut Vec<Object>,
 ) -> Result<(), AllocError>
     ensures { OnOk result (map callee_by all.new.items ≡ map callee_by all.old.items
-        ++ all_kept kept.entry (objects (string_bytes scope.now) (single (view term.now)))) }
+        ++ all_kept kept.entry (objects scope.now (single (view term.now)))) }
 {
     let parts = parts_of(term);
     push_own(
         alloc,
         kept,
-        scope.as_str(),
+        scope,
         parts.kind,
         parts.first,
         parts.others,
@@ -404,7 +389,7 @@ fn push_term(
     if parts.first.is_empty() && parts.others.is_empty() {
         return Ok(());
     }
-    let own = inside(alloc, scope.as_str(), parts.kind)?;
+    let own = inside(alloc, scope, parts.kind)?;
     let inner = inner_scope(scope, &own);
     push_terms(alloc, kept, inner, parts.first, all)?;
     push_terms(alloc, kept, inner, parts.others, all)?;
@@ -424,12 +409,12 @@ fn push_copy(
     if !keeps(kept, object.name.as_bytes()) {
         return Ok(());
     }
-    let path = String::from_str(alloc, object.path.as_str())?;
+    let path = Vec::from_slice(alloc, &object.path)?;
     push_at(alloc, path, &object.name, object.args, all)
 }
 
 // Adds copies of the objects that are kept.
-fn push_copies(
+pub(crate) fn push_copies(
     alloc: Global,
     kept: Kept<'_>,
     objects: &[Object],
@@ -486,7 +471,7 @@ fn add_segment(
     if args == 0 {
         return Ok(());
     }
-    match as_segment(alloc, segment(name.as_bytes()))? {
+    match as_segment(alloc, last_segment(name.as_bytes()))? {
         Some(name) => add_new(alloc, name, args, all),
         None => Ok(()),
     }
@@ -522,8 +507,22 @@ fn add_segments(alloc: Global, terms: &[Term], all: &mut Option<Arities>) -> Res
     Ok(())
 }
 
+// Most terms are these, and none of them is a method: they aren't taken apart.
 #[cycle(segments)]
 fn add_segments_of(alloc: Global, term: &Term, all: &mut Option<Arities>) -> Result<(), AllocError>
+    ensures { OnOk result (unwrap_or all.new [] ≡ with_all (unwrap_or all.old []) (segments_in (single (view term.now)))) }
+{
+    match term {
+        Term::Number { .. } | Term::Ones | Term::Text(_) | Term::Local(_) | Term::Arg(_) => Ok(()),
+        Term::Name { value, .. } => add_segments_of(alloc, value, all),
+        Term::Buffer { size, .. } => add_segments_of(alloc, size, all),
+        Term::Scope { body, .. } | Term::Device { body, .. } => add_segments(alloc, body, all),
+        _ => add_segments_in(alloc, term, all),
+    }
+}
+
+#[cycle(segments)]
+fn add_segments_in(alloc: Global, term: &Term, all: &mut Option<Arities>) -> Result<(), AllocError>
     ensures { OnOk result (unwrap_or all.new [] ≡ with_all (unwrap_or all.old []) (segments_in (single (view term.now)))) }
 {
     let parts = parts_of(term);
@@ -573,9 +572,8 @@ fn all_among(
         ++ map callee_by further.now)) }
 {
     let kept = Kept::Among(among);
-    let root = String::new(alloc);
     let mut all = Vec::new(alloc);
-    push_terms(alloc, kept, &root, terms, &mut all)?;
+    push_terms(alloc, kept, &[], terms, &mut all)?;
     push_copies(alloc, kept, further, &mut all)?;
     Ok(all)
 }
@@ -605,7 +603,7 @@ fn add_object(alloc: Global, args: u8, object: &Object, all: &mut Arities) -> Re
     if object.args != args {
         return Ok(());
     }
-    add_calls(alloc, object.path.as_str(), object.args, all)
+    add_calls(alloc, &object.path, object.args, all)
 }
 
 // Adds those of the objects with this number of arguments.
@@ -636,7 +634,7 @@ pub(crate) fn add_objects(
 pub(crate) fn add_predefined(alloc: Global, all: &mut Arities) -> Result<(), AllocError>
     ensures { OnOk result (all.new ≡ with_all all.old predefined) }
 {
-    add_calls(alloc, "_OSI", 1, all)
+    add_calls(alloc, b"_OSI", 1, all)
 }
 
 // Returns the stated numbers, those of objects, and that of the operating system.
@@ -649,8 +647,8 @@ fn own_numbers(alloc: Global, stated: &Arities, objects: &[Object]) -> Result<Ar
     Ok(all)
 }
 
-/// Adds the objects of a further definition block, by which it and others have the same namespace (ACPI 6.5, 5.3). `bytes` are its
-/// terms, without the header. The objects are those of the terms that can be read with the stated numbers.
+/// Adds the objects of a further definition block, by which it and others have the same namespace (ACPI 6.5, 5.3). `bytes` are
+/// its terms, without the header. The objects are those of the terms that can be read with the stated numbers.
 pub fn add_objects_in(
     alloc: Global,
     bytes: &[u8],
@@ -660,8 +658,7 @@ pub fn add_objects_in(
     ensures { OnOk result (AddObjectsIn stated.now bytes.now (map callee_by all.old.items) (map callee_by all.new.items)) }
 {
     let terms = terms_in_part(bytes, stated)?;
-    let root = String::new(alloc);
-    push_terms(alloc, Kept::All, &root, &terms, all)?;
+    push_terms(alloc, Kept::All, &[], &terms, all)?;
     Ok(())
 }
 

@@ -1,19 +1,27 @@
 //! Calls by the search rules of names (ACPI 6.5, 5.3).
 
-ghost use Rattle.std.specs.Prelude.{◌≡◌, ◌++◌, ◌-◌, ◌/◌, ◌||◌, ◌⊎◌, OnOk, IfOk, IfErr, string_bytes, [], ◌∷◌, map, length};
+ghost use Rattle.std.specs.Prelude.{◌≡◌, ◌++◌, ◌-◌, ◌/◌, ◌||◌, ◌⊎◌, OnOk, IfOk, IfErr, false, [], ◌∷◌, map, length};
+ghost use Rattle.std.specs.Option.{option_map};
+ghost use Rattle.std.specs.Str.{bytes_eq};
 ghost use Rattle.acpi_term.specs.Arity.{arity, with_all};
+ghost use Rattle.acpi_term.specs.PathText.{name_of_segments};
 ghost use Rattle.acpi_term.specs.View.{head_of, view, views, single};
-ghost use Rattle.acpi_terms_text.specs.Objects.{as_segment, callee_by, counted};
-ghost use Rattle.acpi_terms_text.specs.Scoped.{outer, around, here, made_in, near, nearest, may_name, mention, differ, numbers_in};
+ghost use Rattle.acpi_terms_text.specs.Objects.{as_segment, callee_by, counted, named_in};
+ghost use Rattle.acpi_terms_text.specs.Path.{parent};
+ghost use Rattle.acpi_terms_text.specs.Scoped.{here, made_in, near, nearest, may_name, any, differ, numbers_in};
+ghost use Rattle.acpi_terms_text.specs.Scoped.{numbers_for};
+ghost use Rattle.acpi_terms_text.specs.Scoped.{AreParents, below, all_below, all_relative, is_relative, may_be_path};
+ghost use Rattle.acpi_terms_text.specs.Scoped.{sought as sought_in, are_other};
 ghost use Rattle.acpi_terms_text.specs.Scoped.{AreReadAgain, AreKept, IsBody, AreScoped, AreInScopes};
 
 use crate::objects::{
-    Object, add_objects, add_predefined, all_callees, as_segment, opened, segment,
+    Kept, Object, add_objects, add_predefined, all_callees, as_segment, push_copies,
 };
+use crate::path::{joined, last_segment, parent, path_in};
 use acpi_base::error::Error;
 use acpi_read::terms::standard_terms;
 use acpi_term::apart::{Kind, parts_of};
-use acpi_term::name_string::{Arities, without_parents};
+use acpi_term::name_string::{Arities, NameString, name_of, without_parents};
 use acpi_term::read_error::ReadError;
 use acpi_term::segment::is_segment;
 use acpi_term::spell::spell;
@@ -31,19 +39,11 @@ struct Numbers<'a> {
     own: &'a Arities,
 }
 
-// Returns the scope around one.
-fn outer(scope: &[u8]) -> &[u8]
-    ensures { result.now ≡ outer scope.now }
+// Returns whether an object is in this scope.
+fn is_in(scope: &[u8], object: &Object) -> bool
+    ensures { result ≡ bytes_eq (parent (callee_by object.now).path) scope.now }
 {
-    &scope[..scope.len().saturating_sub(5)]
-}
-
-// Returns the scope in which an object is.
-fn around(object: &Object) -> &[u8]
-    ensures { result.now ≡ around (callee_by object.now).path }
-{
-    let path = object.path.as_bytes();
-    &path[..path.len().saturating_sub(4)]
+    parent(&object.path) == scope
 }
 
 // Adds the number of a segment, if these bytes are one.
@@ -65,10 +65,15 @@ fn add_here(
 ) -> Result<(), AllocError>
     ensures { OnOk result (all.new ≡ with_all all.old (here scope.now (callee_by object.now))) }
 {
-    if around(object) != scope {
+    if !is_in(scope, object) {
         return Ok(());
     }
-    add_segment(alloc, segment(object.name.as_bytes()), object.args, all)
+    add_segment(
+        alloc,
+        last_segment(object.name.as_bytes()),
+        object.args,
+        all,
+    )
 }
 
 // Adds the numbers of the objects in a scope.
@@ -99,9 +104,86 @@ fn add_near(
 {
     add_made_in(alloc, scope, objects, all)?;
     if levels > 0 {
-        add_near(alloc, levels - 1, outer(scope), objects, all)?;
+        add_near(alloc, levels - 1, parent(scope), objects, all)?;
     }
     Ok(())
+}
+
+// ---- objects by their paths from a scope
+
+// Adds the number of these segments after these `^`, if they have a name.
+#[tactic(auto, using(crate::proofs::Relative::is_name))]
+fn add_after(
+    alloc: Global,
+    up: &[u8],
+    segments: &[u8],
+    args: u8,
+    all: &mut Arities,
+) -> Result<(), AllocError>
+    requires { AreParents up.now }
+    ensures { OnOk result (all.new ≡ with_all all.old
+        (counted args (option_map (λ s. up.now ++ s) (name_of_segments false segments.now)))) }
+{
+    match NameString::of_segments(alloc, false, segments)? {
+        Some(name) => {
+            let name = joined(alloc, up, name.as_bytes())?;
+            all.add(name_of(alloc, &name)?, args)
+        }
+        None => Ok(()),
+    }
+}
+
+// Adds that of an object by its path after that of a scope, if it is in this scope or deeper.
+fn add_below(
+    alloc: Global,
+    up: &[u8],
+    scope: &[u8],
+    object: &Object,
+    all: &mut Arities,
+) -> Result<(), AllocError>
+    requires { AreParents up.now }
+    ensures { OnOk result (all.new ≡ with_all all.old (below up.now scope.now (callee_by object.now))) }
+{
+    if !object.path.starts_with(scope) {
+        return Ok(());
+    }
+    add_after(alloc, up, &object.path[scope.len()..], object.args, all)
+}
+
+// Adds those of all objects.
+fn add_all_below(
+    alloc: Global,
+    up: &[u8],
+    scope: &[u8],
+    objects: &[Object],
+    all: &mut Arities,
+) -> Result<(), AllocError>
+    requires { AreParents up.now }
+    ensures { OnOk result (all.new ≡ with_all all.old (all_below up.now scope.now (map callee_by objects.now))) }
+{
+    'objects: for object in objects {
+        add_below(alloc, up, scope, object, all)?;
+    }
+    Ok(())
+}
+
+// Adds those by their paths from a scope, and from the scopes around it.
+fn add_relative(
+    alloc: Global,
+    scope: &[u8],
+    objects: &[Object],
+    all: &mut Arities,
+) -> Result<(), AllocError>
+    ensures { OnOk result (all.new ≡ with_all all.old (all_relative scope.now (map callee_by objects.now))) }
+{
+    let mut up = Vec::new(alloc);
+    let mut around = scope;
+    'levels: while around.len() >= 4 {
+        add_all_below(alloc, &up, around, objects, all)?;
+        up.push(0x5e)?;
+        around = parent(around);
+    }
+    add_all_below(alloc, &up, around, objects, all)
 }
 
 // ---- whether a body is read again
@@ -111,37 +193,76 @@ fn may_name(name: &[u8], kind: Kind<'_>) -> bool
     ensures { result ≡ may_name name.now (head_of kind.entry) }
 {
     match kind {
-        Kind::Call(other) => without_parents(other.as_bytes()) == name,
+        Kind::Call(other) => other.as_bytes() == name,
         Kind::Unread(..) => true,
         _ => false,
     }
 }
 
+// Returns whether a name depends on the scope, and isn't searched.
+fn is_relative(name: &[u8]) -> bool
+    ensures { result ≡ is_relative name.now }
+{
+    name.len() > 4 && !matches!(name, [0x5c, ..])
+}
+
+// Returns whether a term is such a name, of which the part after `^` has a number in a list, or has bytes that aren't read.
+fn may_be_path(own: &Arities, kind: Kind<'_>) -> bool
+    ensures { result ≡ may_be_path own.now (head_of kind.entry) }
+{
+    match kind {
+        Kind::Call(name) => {
+            is_relative(name.as_bytes()) && own.states(without_parents(name.as_bytes()))
+        }
+        Kind::Unread(..) => true,
+        _ => false,
+    }
+}
+
+// What is looked for in terms.
+#[derive(Clone, Copy)]
+enum Sought<'a> {
+    // This name.
+    Name(&'a [u8]),
+    // A name that depends on the scope, and isn't searched. The list has the numbers of names.
+    Path(&'a Arities),
+}
+
+// Returns whether a term is what is looked for, or has bytes that aren't read.
+fn is_sought(sought: Sought<'_>, kind: Kind<'_>) -> bool
+    ensures { result ≡ sought_in sought.entry (head_of kind.entry) }
+{
+    match sought {
+        Sought::Name(name) => may_name(name, kind),
+        Sought::Path(own) => may_be_path(own, kind),
+    }
+}
+
 // Returns whether one of these terms, or of those in them, is.
-#[cycle(mention)]
-fn mention(name: &[u8], terms: &[Term]) -> bool
-    ensures { result ≡ mention name.now (views terms.now) }
+#[cycle(any)]
+fn any(sought: Sought<'_>, terms: &[Term]) -> bool
+    ensures { result ≡ any (sought_in sought.entry) (views terms.now) }
 {
     for term in terms {
-        if mentions(name, term) {
+        if has(sought, term) {
             return true;
         }
     }
     false
 }
 
-#[cycle(mention)]
-fn mentions(name: &[u8], term: &Term) -> bool
-    ensures { result ≡ mention name.now (single (view term.now)) }
+#[cycle(any)]
+fn has(sought: Sought<'_>, term: &Term) -> bool
+    ensures { result ≡ any (sought_in sought.entry) (single (view term.now)) }
 {
     let parts = parts_of(term);
-    if may_name(name, parts.kind) {
+    if is_sought(sought, parts.kind) {
         return true;
     }
-    if mention(name, parts.first) {
+    if any(sought, parts.first) {
         return true;
     }
-    mention(name, parts.others)
+    any(sought, parts.others)
 }
 
 // Returns whether a segment has another number than in a list, and a body has it as a name.
@@ -150,17 +271,19 @@ fn differs_by(own: &Arities, bytes: &[u8], args: u8, body: &[Term]) -> bool
 {
     match bytes {
         [a, b, c, d] => {
-            is_segment(*a, *b, *c, *d) && own.count_of(bytes) != args && mention(bytes, body)
+            is_segment(*a, *b, *c, *d)
+                && own.count_of(bytes) != args
+                && any(Sought::Name(bytes), body)
         }
         _ => false,
     }
 }
 
-// Returns whether an object in this scope has another number than its last segment in a list, and a body has the segment as a name.
+// Returns whether an object in this scope has another number than its last segment in a list, and a body has this name.
 fn differs_here(own: &Arities, scope: &[u8], body: &[Term], object: &Object) -> bool
     ensures { result ≡ differ own.now (views body.now) (here scope.now (callee_by object.now)) }
 {
-    around(object) == scope && differs_by(own, segment(object.name.as_bytes()), object.args, body)
+    is_in(scope, object) && differs_by(own, last_segment(object.name.as_bytes()), object.args, body)
 }
 
 // Returns whether one of them has.
@@ -187,18 +310,45 @@ fn differs_near(
     ensures { result ≡ differ own.now (views body.now) (near levels scope.now (map callee_by objects.now)) }
 {
     differs_in(own, scope, body, objects)
-        || levels > 0 && differs_near(own, levels - 1, outer(scope), body, objects)
+        || levels > 0 && differs_near(own, levels - 1, parent(scope), body, objects)
+}
+
+// Returns whether terms in a scope may have other numbers than those by which they were read.
+fn are_other(numbers: &Numbers<'_>, scope: &[u8], body: &[Term]) -> bool
+    ensures { result ≡ are_other numbers.now.own.now (map callee_by numbers.now.objects.now) scope.now (views body.now) }
+{
+    if numbers.objects.is_empty() {
+        return false;
+    }
+    differs_near(numbers.own, scope.len() / 4, scope, body, numbers.objects)
+        || any(Sought::Path(numbers.own), body)
 }
 
 // ---- the terms of a method's body
 
-// Returns the numbers in a scope.
-fn numbers_in(alloc: Global, numbers: &Numbers<'_>, scope: &[u8]) -> Result<Arities, AllocError>
-    ensures { IfOk result (λ all. all ≡ numbers_in numbers.now.stated.now (map callee_by numbers.now.objects.now) scope.now) }
+// Returns copies of the objects whose last segment is in these bytes.
+#[tactic(auto, using(crate::proofs::Segments::kept_is))]
+fn named_in(alloc: Global, bytes: &[u8], objects: &[Object]) -> Result<Vec<Object>, AllocError>
+    ensures { IfOk result (λ all. map callee_by all.items ≡ named_in bytes.now (map callee_by objects.now)) }
 {
-    let mut all = numbers.stated.copy(alloc)?;
-    add_near(alloc, scope.len() / 5, scope, numbers.objects, &mut all)?;
-    add_objects(alloc, numbers.objects, &mut all)?;
+    let mut all = Vec::new(alloc);
+    push_copies(alloc, Kept::In(bytes), objects, &mut all)?;
+    Ok(all)
+}
+
+// Returns the numbers in a scope.
+fn numbers_in(
+    alloc: Global,
+    stated: &Arities,
+    objects: &[Object],
+    scope: &[u8],
+) -> Result<Arities, AllocError>
+    ensures { IfOk result (λ all. all ≡ numbers_in stated.now (map callee_by objects.now) scope.now) }
+{
+    let mut all = stated.copy(alloc)?;
+    add_near(alloc, scope.len() / 4, scope, objects, &mut all)?;
+    add_relative(alloc, scope, objects, &mut all)?;
+    add_objects(alloc, objects, &mut all)?;
     add_predefined(alloc, &mut all)?;
     Ok(all)
 }
@@ -210,17 +360,19 @@ fn read_again(
     scope: &[u8],
     body: Vec<Term>,
 ) -> Result<Vec<Term>, AllocError>
-    ensures { IfOk result (λ terms. AreReadAgain
-        (numbers_in numbers.now.stated.now (map callee_by numbers.now.objects.now) scope.now) (views body.items) (views terms.items)
-        ⊎ AreKept (numbers_in numbers.now.stated.now (map callee_by numbers.now.objects.now) scope.now) (views body.items)
-        (views terms.items)) }
+    ensures { IfOk result (λ terms.
+        AreReadAgain (numbers_for numbers.now.stated.now (map callee_by numbers.now.objects.now) scope.now (views body.items))
+        (views body.items) (views terms.items)
+        ⊎ AreKept (numbers_for numbers.now.stated.now (map callee_by numbers.now.objects.now) scope.now (views body.items))
+        (views body.items) (views terms.items)) }
 {
-    let all = numbers_in(alloc, numbers, scope)?;
     let bytes = match spell(alloc, &body) {
         Ok(bytes) => bytes,
         Err(Error::Memory) => return Err(AllocError),
         Err(_) => return Ok(body),
     };
+    let named = named_in(alloc, &bytes, numbers.objects)?;
+    let all = numbers_in(alloc, numbers.stated, &named, scope)?;
     match standard_terms(&bytes, &all) {
         Ok(terms) => Ok(terms),
         Err(ReadError::Memory) => Err(AllocError),
@@ -235,10 +387,10 @@ fn body_in(
     scope: &[u8],
     body: Vec<Term>,
 ) -> Result<Vec<Term>, AllocError>
-    ensures { IfOk result (λ terms. IsBody numbers.now.stated.now (map callee_by numbers.now.objects.now) numbers.now.own.now scope.now
-        (views body.items) (views terms.items)) }
+    ensures { IfOk result (λ terms. IsBody numbers.now.stated.now (map callee_by numbers.now.objects.now) numbers.now.own.now
+        scope.now (views body.items) (views terms.items)) }
 {
-    if differs_near(numbers.own, scope.len() / 5, scope, &body, numbers.objects) {
+    if are_other(numbers, scope, &body) {
         read_again(alloc, numbers, scope, body)
     } else {
         Ok(body)
@@ -252,11 +404,11 @@ fn body_in(
 fn scoped_terms(
     alloc: Global,
     numbers: &Numbers<'_>,
-    scope: &String,
+    scope: &[u8],
     mut terms: Vec<Term>,
 ) -> Result<Vec<Term>, AllocError>
     ensures { IfOk result (λ all. AreScoped numbers.now.stated.now (map callee_by numbers.now.objects.now) numbers.now.own.now
-        (string_bytes scope.now) (views terms.items) (views all.items)) }
+        scope.now (views terms.items) (views all.items)) }
 {
     for term in terms.iter_mut() {
         let old = replace(term, Term::Ones);
@@ -269,11 +421,11 @@ fn scoped_terms(
 fn scoped_box(
     alloc: Global,
     numbers: &Numbers<'_>,
-    scope: &String,
+    scope: &[u8],
     mut term: Box<Term>,
 ) -> Result<Box<Term>, AllocError>
     ensures { IfOk result (λ new. AreScoped numbers.now.stated.now (map callee_by numbers.now.objects.now) numbers.now.own.now
-        (string_bytes scope.now) (single (view term.value)) (single (view new.value))) }
+        scope.now (single (view term.value)) (single (view new.value))) }
 {
     let old = replace(&mut *term, Term::Ones);
     *term = scoped_term(alloc, numbers, scope, old)?;
@@ -284,20 +436,20 @@ fn scoped_box(
 fn scoped_term(
     alloc: Global,
     numbers: &Numbers<'_>,
-    scope: &String,
+    scope: &[u8],
     term: Term,
 ) -> Result<Term, AllocError>
     ensures { IfOk result (λ new. AreScoped numbers.now.stated.now (map callee_by numbers.now.objects.now) numbers.now.own.now
-        (string_bytes scope.now) (single (view term)) (single (view new))) }
+        scope.now (single (view term)) (single (view new))) }
 {
     match term {
         Term::Scope { width, name, body } => {
-            let inner = opened(alloc, scope, &name)?;
+            let inner = path_in(alloc, scope, &name)?;
             let body = scoped_terms(alloc, numbers, &inner, body)?;
             Ok(Term::Scope { width, name, body })
         }
         Term::Device { width, name, body } => {
-            let inner = opened(alloc, scope, &name)?;
+            let inner = path_in(alloc, scope, &name)?;
             let body = scoped_terms(alloc, numbers, &inner, body)?;
             Ok(Term::Device { width, name, body })
         }
@@ -308,7 +460,7 @@ fn scoped_term(
             order,
             body,
         } => {
-            let inner = opened(alloc, scope, &name)?;
+            let inner = path_in(alloc, scope, &name)?;
             let body = scoped_terms(alloc, numbers, &inner, body)?;
             Ok(Term::PowerResource {
                 width,
@@ -326,7 +478,7 @@ fn scoped_term(
             size,
             body,
         } => {
-            let inner = opened(alloc, scope, &name)?;
+            let inner = path_in(alloc, scope, &name)?;
             let body = scoped_terms(alloc, numbers, &inner, body)?;
             Ok(Term::Processor {
                 width,
@@ -338,7 +490,7 @@ fn scoped_term(
             })
         }
         Term::ThermalZone { width, name, body } => {
-            let inner = opened(alloc, scope, &name)?;
+            let inner = path_in(alloc, scope, &name)?;
             let body = scoped_terms(alloc, numbers, &inner, body)?;
             Ok(Term::ThermalZone { width, name, body })
         }
@@ -379,8 +531,8 @@ fn scoped_term(
             serialized,
             body,
         } => {
-            let inner = opened(alloc, scope, &name)?;
-            let body = body_in(alloc, numbers, inner.as_bytes(), body)?;
+            let inner = path_in(alloc, scope, &name)?;
+            let body = body_in(alloc, numbers, &inner, body)?;
             Ok(Term::Method {
                 width,
                 name,
@@ -397,8 +549,8 @@ fn scoped_term(
             level,
             body,
         } => {
-            let inner = opened(alloc, scope, &name)?;
-            let body = body_in(alloc, numbers, inner.as_bytes(), body)?;
+            let inner = path_in(alloc, scope, &name)?;
+            let body = body_in(alloc, numbers, &inner, body)?;
             Ok(Term::LeveledMethod {
                 width,
                 name,
@@ -412,12 +564,14 @@ fn scoped_term(
     }
 }
 
-/// Returns the terms of a definition block, of which each method's body is read by the search rules of names (ACPI 6.5, 5.3). `own`
-/// are the numbers of arguments by which the block was read, and `stated` those of them that a caller states. A call by a name
-/// takes as many arguments as the object of this name in the nearest scope: that of the call, or one around it. Stated numbers come
-/// first, and what no object near has is read as before. The objects of further blocks count as those of the block itself. A body
-/// is read again if it has a name whose number in its scope is another than in `own`, or bytes that aren't read. It stays as it is
-/// if its bytes spell no terms with the numbers of its scope.
+/// Returns the terms of a definition block, of which each method's body is read by the rules of names (ACPI 6.5, 5.3). `own` are
+/// the numbers of arguments by which the block was read, and `stated` those of them that a caller states. A call takes as many
+/// arguments as the object that its name finds. A segment alone finds the nearest object of this name: in the scope of the call,
+/// or in one around it. Other names find the object of this path from the scope. Stated numbers come first, and a name that finds
+/// no object is read as before. The objects of further blocks count as those of the block itself.
+///
+/// A body is read again if it has a name whose number in its scope is another than in `own`, a name of several segments or after
+/// `^`, or bytes that aren't read. It stays as it is if its bytes spell no terms with the numbers of its scope.
 pub fn in_scopes(
     alloc: Global,
     stated: &Arities,
@@ -425,7 +579,8 @@ pub fn in_scopes(
     own: &Arities,
     terms: Vec<Term>,
 ) -> Result<Vec<Term>, AllocError>
-    ensures { IfOk result (λ all. AreInScopes stated.now (map callee_by further.now) own.now (views terms.items) (views all.items)) }
+    ensures { IfOk result (λ all. AreInScopes stated.now (map callee_by further.now) own.now (views terms.items)
+        (views all.items)) }
 {
     let objects = all_callees(alloc, &terms, further)?;
     if objects.is_empty() {
@@ -436,6 +591,5 @@ pub fn in_scopes(
         objects: &objects,
         own,
     };
-    let root = String::new(alloc);
-    scoped_terms(alloc, &numbers, &root, terms)
+    scoped_terms(alloc, &numbers, &[], terms)
 }

@@ -2,7 +2,6 @@
 use Rattle.std.specs.Prelude.{◌≡◌, ◌≢◌, ◌⊎◌, ℕ, Bool, true, false, List, [], ◌++◌, drop}
 use Rattle.std.specs.Prelude.{Option, Some, None, codes}
 use Rattle.std.specs.Fmt.{decimal}
-use Rattle.acpi_term.specs.Arity.{arity}
 use Rattle.acpi_asl.specs.Block.{has_terms, AreNoTerms}
 use Rattle.acpi_term.specs.declared.read_error.ReadError.{ReadError}
 use Rattle.acpi_term.specs.declared.read_error.ReadError.TheVariants.{Memory}
@@ -17,7 +16,7 @@ use Rattle.acpitool_program.specs.declared.fault.Fault.{Fault}
 pub record IsReport (stated : List (List ℕ × ℕ)) (terms text : List ℕ) : Type 0 where
   pub own : List (List ℕ × ℕ)
   pub methods : AreOwn stated [] terms own
-  pub annotated : IsAnnotated (arity own) terms text
+  pub annotated : IsAnnotated own terms text
 
 -- the lines of a report
 abbrev pub report_lines : List ℕ → List ℕ

@@ -85,8 +85,8 @@ fn push_segments(segments: &[u8], text: &mut String) -> Result<(), AllocError>
     push_ascii(rest, text)
 }
 
-// The segments of a path, without the prefix that counts them. A null path has none.
-fn segments_of(path: &[u8]) -> &[u8]
+/// The segments of a path, without the prefix that counts them (ACPI 6.5, 20.2.2). A null path has none.
+pub fn segments_of(path: &[u8]) -> &[u8]
     ensures { result.now ≡ segments_of path.now }
 {
     match path {

@@ -1,9 +1,8 @@
 //! Terms that are read as far as they can be.
 
 ghost use Rattle.std.specs.Prelude.{◌≡◌, ◌≤◌, ◌<◌, ◌-◌, [], length, true, false, IfOk, IfSome, None};
-ghost use Rattle.acpi_term.specs.Arity.{arity};
+ghost use Rattle.acpi_term.specs.Arity.{grammar_by};
 ghost use Rattle.acpi_term.specs.declared.language.Language.TheVariants.{Standard};
-ghost use Rattle.acpi_term.specs.Language.{grammar_of};
 ghost use Rattle.acpi_term.specs.Tree.{end, unread};
 ghost use Rattle.acpi_term.specs.View.{view, views};
 ghost use Rattle.acpi_read.specs.InPart.{first_and_terms, content, BeginNoFrame, BeginNoList, IsFrameOf, IsFrameAt, IsBranch};
@@ -175,7 +174,7 @@ fn list(reader: &TermReader, bytes: &[u8], end: usize) -> Result<Vec<Term>, Allo
 /// that it is in. The terms before it and after the list are read. Names take these numbers of arguments. Offsets count from the
 /// first byte. Memory is taken from the allocator of `arities`.
 pub fn terms_in_part(bytes: &[u8], arities: &Arities) -> Result<Vec<Term>, AllocError>
-    ensures { IfOk result (λ v. AreReadInPart (grammar_of Standard (arity arities.now)) bytes.now (views v.items)) }
+    ensures { IfOk result (λ v. AreReadInPart (grammar_by Standard arities.now) bytes.now (views v.items)) }
 {
     let reader = TermReader::new(Language::Standard, arities);
     list(&reader, bytes, bytes.len())

@@ -1,8 +1,7 @@
 //! The heads of terms: the bytes before their children (ACPI 6.5, 20.2.3 and 20.2.5).
 
 ghost use Rattle.std.specs.Prelude.{◌≡◌, ◌≤◌, ◌/◌, ◌%◌, nat_le, length, IfOk, Ok};
-ghost use Rattle.acpi_term.specs.Arity.{arity};
-ghost use Rattle.acpi_term.specs.Language.{grammar_of};
+ghost use Rattle.acpi_term.specs.Arity.{arity_in, grammar_by};
 ghost use Rattle.acpi_term.specs.Operator.{op_of};
 ghost use Rattle.acpi_term.specs.Spelling.{inner, arguments};
 ghost use Rattle.acpi_term.specs.Tree.{def_leveled_method, term, number, def_var_package, def_if, def_while, def_else};
@@ -115,7 +114,7 @@ impl Block {
 impl FirstAndBlock {
     /// The place of the first child.
     pub fn mode(self) -> Mode
-        ensures { result ≡ inner (first_head self) }
+        ensures { (l : Language) → result ≡ inner l (first_head self) }
     {
         match self {
             FirstAndBlock::VarPackage(_) => Mode::Count,
@@ -690,7 +689,7 @@ fn open_head<'a>(
     mode: Mode,
     bytes: &'a [u8],
 ) -> Result<TermStart<'a>, Cause>
-    ensures gives { Gives seen result (head_at (grammar_of language (arity arities.now)) mode bytes.now) }
+    ensures gives { Gives seen result (head_at (grammar_by language arities.now) mode bytes.now) }
     ensures alone { IfOk result IsAlone }
 {
     let alloc = arities.allocator();
@@ -701,7 +700,7 @@ fn open_head<'a>(
         return opcode(language, alloc, *byte, rest);
     }
     let (name, rest) = name(language, alloc, bytes)?;
-    let count = arguments(arities, mode, name.as_bytes());
+    let count = arguments(language, arities, mode, name.as_bytes());
     Ok(TermStart::Call(name, count, rest))
 }
 
@@ -712,7 +711,7 @@ fn open_placed<'a>(
     mode: Mode,
     bytes: &'a [u8],
 ) -> Result<TermStart<'a>, Cause>
-    ensures gives { Gives seen result (open_at (grammar_of language (arity arities.now)) mode bytes.now) }
+    ensures gives { Gives seen result (open_at (grammar_by language arities.now) mode bytes.now) }
     ensures alone { IfOk result IsAlone }
 {
     if mode.is_test(language) {
@@ -728,7 +727,7 @@ pub fn open<'a>(
     mode: Mode,
     bytes: &'a [u8],
 ) -> Result<TermStart<'a>, Cause>
-    ensures gives { Gives seen result (open_at (grammar_of language (arity arities.now)) mode bytes.now) }
+    ensures gives { Gives seen result (open_at (grammar_by language arities.now) mode bytes.now) }
     ensures alone { IfOk result IsAlone }
     ensures within { IfOk result (λ opened. LiesWithin (length bytes.now) (seen opened)) }
 {

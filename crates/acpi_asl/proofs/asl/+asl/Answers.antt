@@ -31,14 +31,14 @@ push_term-returns t c =
     let p = c.parts_of-parts.result in
     one_written c.args.place c.args.depth c.args.term.now _ _ p.first.now p.others.now c.parts_of-parts.ensures _ _ c.is_left_out-left_out.ensures c.in_ok-inner.ensures _ _ _ _ _ _ c.in_ok-push_before.ensures c.in_ok-push_note.ensures c.in_ok-push_block_note.ensures c.in_ok-push_whole.ensures c.in_ok-push_after.ensures
 
-pub push_whole-push_terms-requires : goal.push_whole-push_terms-requires
-push_whole-push_terms-requires t c =
+pub push_whole-push_any-requires : goal.push_whole-push_any-requires
+push_whole-push_any-requires t c =
     let p = c.args.parts in
     let shallow = first_shallow p.first.now p.others.now in
     (omega (arith, shallow, c.decreases), tt)
 
-pub push_whole-push_terms-requires-2 : goal.push_whole-push_terms-requires-2
-push_whole-push_terms-requires-2 t c =
+pub push_whole-push_any-requires-2 : goal.push_whole-push_any-requires-2
+push_whole-push_any-requires-2 t c =
     let p = c.args.parts in
     let shallow = others_shallow p.first.now p.others.now in
     (omega (arith, shallow, c.decreases), tt)
@@ -46,4 +46,4 @@ push_whole-push_terms-requires-2 t c =
 pub push_whole-returns : goal.push_whole-returns
 push_whole-returns t c =
     let p = c.args.parts in
-    whole_written c.args.place _ _ p.first.now p.others.now _ c.is_special.ensures _ _ _ _ _ _ (search rules) c.is_statement.ensures (search rules) c.place_in-inside.ensures _ _ _ _ _ c.in_ok-push_opening.ensures c.in_ok-left.ensures c.in_ok-push_terms.ensures c.in_ok-push_end.ensures
+    whole_written c.args.place _ _ p.first.now p.others.now _ c.is_special.ensures _ _ _ _ _ _ (search rules) c.is_statement.ensures (search rules) c.place_in-inside.ensures _ _ _ _ _ c.in_ok-push_opening.ensures c.in_ok-left.ensures c.in_ok-push_any.ensures c.in_ok-push_end.ensures

@@ -1,4 +1,4 @@
-use Rattle.std.proofs.Common.{◌≡◌, List, refl, string_bytes, rules, arith, ap}
+use Rattle.std.proofs.Common.{◌≡◌, List, refl, rules, arith, ap}
 use Rattle.acpi_term.proofs.Depths.{first_shallow, others_shallow, element_shallow}
 use Rattle.acpi_term.specs.declared.term.Term.{Term}
 use Rattle.acpi_term.specs.Tree.{depth}
@@ -18,10 +18,10 @@ push_terms-push_term-requires t c =
 
 pub push_terms-loop-term-preserved : goal.push_terms-loop-term-preserved
 push_terms-loop-term-preserved t c =
-    runs_on (λ (terms : List Term). all_kept c.args.kept (objects (string_bytes c.args.scope.now) (views terms))) _ _ _ _ c.loop-term.invariant c.term-item.result _ _ c.loop-term-test.true c.term-item.is (kept_step c.args.kept (string_bytes c.args.scope.now) c.term-item.result _) c.in_ok-push_term.ensures
+    runs_on (λ (terms : List Term). all_kept c.args.kept (objects (c.args.scope.now) (views terms))) _ _ _ _ c.loop-term.invariant c.term-item.result _ _ c.loop-term-test.true c.term-item.is (kept_step c.args.kept (c.args.scope.now) c.term-item.result _) c.in_ok-push_term.ensures
 
 pub push_terms-returns : goal.push_terms-returns
-push_terms-returns t c = runs_done (λ (terms : List Term). all_kept c.args.kept (objects (string_bytes c.args.scope.now) (views terms))) _ _ _ _ c.loop-term.invariant refl c.loop-term-test.false
+push_terms-returns t c = runs_done (λ (terms : List Term). all_kept c.args.kept (objects (c.args.scope.now) (views terms))) _ _ _ _ c.loop-term.invariant refl c.loop-term-test.false
 
 pub push_term-push_terms-requires : goal.push_term-push_terms-requires
 push_term-push_terms-requires t c =
@@ -38,5 +38,5 @@ push_term-push_terms-requires-2 t c =
 pub push_term-returns : goal.push_term-returns
 push_term-returns t c =
     let p = c.parts_of-parts.result in
-    let into : string_bytes c.inner_scope-inner.result.now ≡ inside (string_bytes c.args.scope.now) (head_of p.kind) = search rules in
-    kept_over c.args.kept (string_bytes c.args.scope.now) (string_bytes c.inner_scope-inner.result.now) c.args.term.now _ _ p.first.now p.others.now c.parts_of-parts.ensures into _ c.as_str.ensures.value _ _ _ _ c.in_ok-push_own.ensures c.in_ok-push_terms.ensures c.in_ok-push_terms-2.ensures
+    let into : c.inner_scope-inner.result.now ≡ inside (c.args.scope.now) (head_of p.kind) = search rules in
+    kept_over c.args.kept (c.args.scope.now) (c.inner_scope-inner.result.now) c.args.term.now _ _ p.first.now p.others.now c.parts_of-parts.ensures into _ refl _ _ _ _ c.in_ok-push_own.ensures c.in_ok-push_terms.ensures c.in_ok-push_terms-2.ensures

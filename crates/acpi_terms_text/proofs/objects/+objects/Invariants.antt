@@ -1,4 +1,4 @@
-use Rattle.std.proofs.Common.{◌+◌, ◌*◌, List, map, string_bytes}
+use Rattle.std.proofs.Common.{◌+◌, ◌*◌, List, map}
 use Rattle.acpi_term.specs.declared.term.Term.{Term}
 use Rattle.acpi_term.specs.Tree.{depth}
 use Rattle.acpi_term.specs.View.{view, views, single}
@@ -13,4 +13,4 @@ abbrev pub decreases-push_term : goal.decreases-push_term
 decreases-push_term l = 2 * depth (single (view l.term.now))
 
 abbrev pub invariant-push_terms-loop-term : goal.invariant-push_terms-loop-term
-invariant-push_terms-loop-term l = Runs (λ (terms : List Term). all_kept l.kept (objects (string_bytes l.scope) (views terms))) l.terms l.term-index (map callee_by l.initial.all.items) (map callee_by l.all.items)
+invariant-push_terms-loop-term l = Runs (λ (terms : List Term). all_kept l.kept (objects l.scope (views terms))) l.terms l.term-index (map callee_by l.initial.all.items) (map callee_by l.all.items)

@@ -1,10 +1,9 @@
 use Rattle.std.proofs.Common.{List, [], refl, subst, sym}
 use Rattle.acpi_read.specs.InPart.{AreReadInPart}
-use Rattle.acpi_term.specs.Arity.{arity}
+use Rattle.acpi_term.specs.Arity.{grammar_by}
 use Rattle.acpi_term.specs.View.{views}
 use Rattle.acpi_term.specs.declared.language.Language.TheVariants.{Standard}
 use Rattle.acpi_term.specs.declared.term.Term.{Term}
-use Rattle.acpi_term.specs.Language.{grammar_of}
 use Rattle.acpi_terms_text.specs.Objects.{objects}
 use Rattle.acpi_terms_text.proofs.Segments.{all_added}
 use Rattle.acpi_terms_text.proofs.objects.add_objects_in.Goals as goal
@@ -12,11 +11,11 @@ use Rattle.acpi_terms_text.proofs.objects.add_objects_in.Goals as goal
 pub returns : goal.returns
 returns c =
     let ts = views c.deref.result.now in
-    let read : AreReadInPart (grammar_of Standard (arity c.args.stated.now)) c.args.bytes.now ts =
-    subst (λ (l : List Term). AreReadInPart (grammar_of Standard (arity c.args.stated.now)) c.args.bytes.now (views l)) (sym c.deref.ensures.value) c.in_ok-terms.ensures
+    let read : AreReadInPart (grammar_by Standard c.args.stated.now) c.args.bytes.now ts =
+    subst (λ (l : List Term). AreReadInPart (grammar_by Standard c.args.stated.now) c.args.bytes.now (views l)) (sym c.deref.ensures.value) c.in_ok-terms.ensures
     in
     record {
       more = objects [] ts;
       are = record { terms = ts; read = read; is = refl };
-      added = all_added ts _ _ _ c.new-root.ensures.bytes c.in_ok-push_terms.ensures;
+      added = all_added ts _ _ _ refl c.in_ok-push_terms.ensures;
     }

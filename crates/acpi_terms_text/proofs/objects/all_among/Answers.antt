@@ -1,4 +1,4 @@
-use Rattle.std.proofs.Common.{map, ap}
+use Rattle.std.proofs.Common.{map, ap, refl}
 use Rattle.acpi_term.specs.View.{views}
 use Rattle.acpi_terms_text.specs.declared.objects.Kept.TheVariants.{Among}
 use Rattle.acpi_terms_text.specs.Objects.{callee_by}
@@ -7,4 +7,4 @@ use Rattle.acpi_terms_text.proofs.objects.all_among.Goals as goal
 
 pub returns : goal.returns
 returns c =
-    callees_kept (Among c.args.among) (views c.args.terms.now) (map callee_by c.args.further.now) _ _ _ _ (ap (map callee_by) c.new-all.ensures.items) c.new-root.ensures.bytes c.in_ok-push_terms.ensures c.in_ok-push_copies.ensures
+    callees_kept (Among c.args.among) (views c.args.terms.now) (map callee_by c.args.further.now) _ _ _ _ (ap (map callee_by) c.new-all.ensures.items) refl c.in_ok-push_terms.ensures c.in_ok-push_copies.ensures

@@ -10,4 +10,4 @@ returns-then-differs_in t c =
 
 pub returns-then-levels-gt0 : goal.returns-then-levels-gt0
 returns-then-levels-gt0 t c =
-    differs_after (map callee_by c.args.objects.now) c.args.own.now (views c.args.body.now) c.args.levels c.args.scope.now c.outer.result.now _ _ c.if-levels-gt0.true c.outer.ensures c.differs_in.ensures c.if-differs_in.false c.differs_near.ensures
+    differs_after (map callee_by c.args.objects.now) c.args.own.now (views c.args.body.now) c.args.levels c.args.scope.now c.parent.result.now _ _ c.if-levels-gt0.true c.parent.ensures c.differs_in.ensures c.if-differs_in.false c.differs_near.ensures

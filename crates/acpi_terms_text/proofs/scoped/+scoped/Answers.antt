@@ -1,4 +1,4 @@
-use Rattle.std.proofs.Common.{◌≡◌, ℕ, ◌<◌, ◌≤◌, List, ◌++◌, length, take, drop, map, string_bytes, rules, arith, subst, sym, ap, ◌∙◌}
+use Rattle.std.proofs.Common.{◌≡◌, ℕ, ◌<◌, ◌≤◌, List, ◌++◌, length, take, drop, map, rules, arith, subst, sym, ap, ◌∙◌}
 use Rattle.std.proofs.Math.Seq.{take-append_seam}
 use Rattle.acpi_term.specs.Tree.{depth}
 use Rattle.acpi_term.specs.View.{view, views, single}
@@ -13,7 +13,7 @@ scoped_terms-scoped_term-requires t c =
     let stated = c.args.numbers.now.stated.now in
     let all = map callee_by c.args.numbers.now.objects.now in
     let own = c.args.numbers.now.own.now in
-    let scope = string_bytes c.args.scope.now in
+    let scope = c.args.scope.now in
     let inside : c.loop-term.term-index < length c.loop-term.term-items = omega (arith, c.loop-term-test.true, c.loop-term.auto.term-items) in
     let old : c.replace-old.result ≡ c.term-item.result = c.replace-old.ensures.value ∙ sym c.term-item.is in
     let shallow = done_shallow stated all own scope c.loop-term.term-index c.args.terms.items c.loop-term.term-items c.term-item.result inside c.term-item.is c.loop-term.invariant in
@@ -24,7 +24,7 @@ scoped_terms-loop-term-preserved t c =
     let stated = c.args.numbers.now.stated.now in
     let all = map callee_by c.args.numbers.now.objects.now in
     let own = c.args.numbers.now.own.now in
-    let scope = string_bytes c.args.scope.now in
+    let scope = c.args.scope.now in
     let inside : c.loop-term.term-index < length c.loop-term.term-items = omega (arith, c.loop-term-test.true, c.loop-term.auto.term-items) in
     let old : c.replace-old.result ≡ c.term-item.result = c.replace-old.ensures.value ∙ sym c.term-item.is in
     let one : AreScoped stated all own scope (single (view c.term-item.result)) (single (view c.in_ok-term.field-0)) =
@@ -37,7 +37,7 @@ scoped_terms-returns t c =
     let stated = c.args.numbers.now.stated.now in
     let all = map callee_by c.args.numbers.now.objects.now in
     let own = c.args.numbers.now.own.now in
-    let scope = string_bytes c.args.scope.now in
+    let scope = c.args.scope.now in
     let now = c.loop-term.term-items in
     let rest = drop (length now) c.args.terms.items in
     let past : length now ≤ c.loop-term.term-index = omega (arith, c.loop-term.auto.term-items, c.loop-term-test.false) in

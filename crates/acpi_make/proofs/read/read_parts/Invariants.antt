@@ -2,7 +2,7 @@ use Rattle.std.proofs.Common.{◌≡◌, length, reverse}
 use Rattle.acpi_make.specs.Gives.{with_front}
 use Rattle.acpi_make.specs.Meaning.{read, parts_of}
 use Rattle.acpi_make.specs.Step.{IsHalf}
-use Rattle.acpi_make.proofs.read.read_text.Given as goal
+use Rattle.acpi_make.proofs.read.read_parts.Given as goal
 
 abbrev pub invariant-bytes : goal.invariant-bytes
 invariant-bytes l = record {

@@ -1,0 +1,54 @@
+//! Paths: the segments of an object's name from the root on (ACPI 6.5, 5.3).
+
+ghost use Rattle.std.specs.Prelude.{◌≡◌, ◌++◌, IfOk};
+ghost use Rattle.acpi_terms_text.specs.Path.{parent, path_in, last_segment};
+
+use acpi_read::report::words::segments_of;
+use acpi_term::name_string::NameString;
+use std::alloc::{AllocError, Global};
+
+/// Returns the path of the scope in which an object is, or of the scope around a scope. That of the root is its own.
+pub fn parent(path: &[u8]) -> &[u8]
+    ensures { result.now ≡ parent path.now }
+{
+    &path[..path.len().saturating_sub(4)]
+}
+
+/// Returns segments after those of a scope.
+pub fn joined(alloc: Global, scope: &[u8], segments: &[u8]) -> Result<Vec<u8>, AllocError>
+    ensures { IfOk result (λ path. path.items ≡ scope.now ++ segments.now) }
+{
+    let mut path = Vec::from_slice(alloc, scope)?;
+    path.extend_from_slice(segments)?;
+    Ok(path)
+}
+
+fn of_bytes(alloc: Global, scope: &[u8], name: &[u8]) -> Result<Vec<u8>, AllocError>
+    ensures { IfOk result (λ path. path.items ≡ path_in scope.now name.now) }
+{
+    let mut around = scope;
+    let mut rest = name;
+    'parents: while let [0x5e, more @ ..] = rest {
+        around = parent(around);
+        rest = more;
+    }
+    match rest {
+        [] => Vec::from_slice(alloc, around),
+        [0x5c, more @ ..] => Vec::from_slice(alloc, segments_of(more)),
+        _ => joined(alloc, around, segments_of(rest)),
+    }
+}
+
+/// Returns the path of a name in a scope.
+pub fn path_in(alloc: Global, scope: &[u8], name: &NameString) -> Result<Vec<u8>, AllocError>
+    ensures { IfOk result (λ path. path.items ≡ path_in scope.now name.now) }
+{
+    of_bytes(alloc, scope, name.as_bytes())
+}
+
+/// Returns the last segment of a name.
+pub fn last_segment(name: &[u8]) -> &[u8]
+    ensures { result.now ≡ last_segment name.now }
+{
+    &name[name.len().saturating_sub(4)..]
+}
