@@ -38,6 +38,8 @@ else
     mkdir "$work/acpi" "$work/acpi/arm"
     crates/acpi_example/out/acpi_example "$work/acpi" 1c000000 >"$work/log"
     crates/acpi_example/out/acpi_example arm "$work/acpi/arm" 40000000 >"$work/log"
+    # An image begins with a table and isn't one. The block `package` is a package alone, for which ASL has no statement.
+    rm "$work/acpi/image" "$work/acpi/arm/image" "$work/acpi/package"
     mkdir "$work/calls"
     python3 -B tools/calls.py "$work/calls" 100
     for block in "$work/calls"/*.asl; do
