@@ -8,7 +8,8 @@
 # iasl runs without its optimizations, which shorten names and numbers. The header isn't compared beyond the OEM's revision, since
 # iasl writes itself and its release there. It doesn't know where a block was made with more bytes than needed for a length or a
 # number: such a block is named, and the number of its bytes beside that of iasl's. Some blocks break rules that iasl checks, such
-# as a name that stands twice or that no block declares. These are compiled by force (-f), and what iasl says is printed.
+# as a name that stands twice. These are compiled by force (-f), and what iasl says is printed. A text with External statements for
+# names that find no object (the note `Absent`) is compiled, and once more without them, by force, since they aren't in the block.
 #
 # Tried with release 20200925, Debian's package acpica-tools.
 set -eu
@@ -75,6 +76,12 @@ while read -r table; do
         sed "s/^/$name: /" "$work/said"
         wrong=$((wrong + 1))
     else
+        if grep -q '/\*= Absent \*/' "$work/block.dsl"; then
+            mv "$work/said" "$work/first"
+            grep -v '/\*= Absent \*/' "$work/block.dsl" >"$work/bare.dsl"
+            compile "$work/bare.dsl" || fail "$name: refused by iasl by force"
+            mv "$work/first" "$work/said"
+        fi
         tail -c +37 "$table" >"$work/terms"
         tail -c +37 "$work/made.aml" >"$work/compiled"
         if cmp -s "$work/terms" "$work/compiled"; then

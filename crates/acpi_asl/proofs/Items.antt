@@ -22,10 +22,10 @@ skip_test inside zero bytes = refl
 skip_test inside (suc k) [] = refl
 skip_test inside (suc k) (b ∷ bytes) = skip_test inside k bytes
 
-skip_text : (d : ℕ) (inside : Bool) (k : ℕ) (bytes : List ℕ) → items_text d inside k bytes ≡ items_text d inside 0 (drop k bytes)
-skip_text d inside zero bytes = refl
-skip_text d inside (suc k) [] = refl
-skip_text d inside (suc k) (b ∷ bytes) = skip_text d inside k bytes
+skip_text : (tags d : ℕ) (inside : Bool) (k : ℕ) (bytes : List ℕ) → items_text tags d inside k bytes ≡ items_text tags d inside 0 (drop k bytes)
+skip_text tags d inside zero bytes = refl
+skip_text tags d inside (suc k) [] = refl
+skip_text tags d inside (suc k) (b ∷ bytes) = skip_text tags d inside k bytes
 
 -- an item has at least one byte
 some_size : (tag : ℕ) (more : List ℕ) → item_size (tag ∷ more) ≡ suc (item_size (tag ∷ more) - 1)
@@ -79,31 +79,31 @@ pub test_ends : (bytes rest more : List ℕ) (was inside : Bool) (tag : ℕ) (la
     → is_template was 0 bytes ≡ is_template inside 0 rest → last ≡ is_template was 0 bytes
 test_ends bytes rest more was inside tag last is end last_is before = last_is ∙ sym (before ∙ ap (is_template inside 0) is ∙ rw end refl)
 
-text_step : (d : ℕ) (inside : Bool) (tag : ℕ) (more : List ℕ) → (tag ≡ 0x79 → ⊥)
-    → items_text d inside 0 (tag ∷ more) ≡ item_text d inside tag (take (item_size (tag ∷ more)) (tag ∷ more)) (tag ∷ more) ++ items_text d (is_inside inside tag) (item_size (tag ∷ more) - 1) more
-text_step d inside tag more other = rw (ne_eqb tag 0x79 other) refl
+text_step : (tags d : ℕ) (inside : Bool) (tag : ℕ) (more : List ℕ) → (tag ≡ 0x79 → ⊥)
+    → items_text tags d inside 0 (tag ∷ more) ≡ item_text tags d inside tag (take (item_size (tag ∷ more)) (tag ∷ more)) (tag ∷ more) ++ items_text tags d (is_inside inside tag) (item_size (tag ∷ more) - 1) more
+text_step tags d inside tag more other = rw (ne_eqb tag 0x79 other) refl
 
-pub text_goes_on : (d : ℕ) (inside next_inside : Bool) (whole old rest after more new : List ℕ) (tag size : ℕ) → rest ≡ tag ∷ more → (tag ≡ 0x79 → ⊥) → size ≡ item_size (tag ∷ more)
-    → after ≡ drop size rest → next_inside ≡ is_inside inside tag → new ≡ old ++ item_text d inside tag (take size rest) rest
-    → old ++ items_text d inside 0 rest ≡ whole → new ++ items_text d next_inside 0 after ≡ whole
-text_goes_on d inside next_inside whole old rest after more new tag size is other sized next turned added before =
-    let line : List ℕ = item_text d inside tag (take size rest) rest in
-    let later : items_text d next_inside 0 after ≡ items_text d (is_inside inside tag) (item_size (tag ∷ more) - 1) more =
-    ap (λ (v : Bool). items_text d v 0 after) turned
-    ∙ ap (items_text d (is_inside inside tag) 0) (after_front rest after more tag size is sized next)
-    ∙ sym (skip_text d (is_inside inside tag) (item_size (tag ∷ more) - 1) more)
+pub text_goes_on : (tags d : ℕ) (inside next_inside : Bool) (whole old rest after more new : List ℕ) (tag size : ℕ) → rest ≡ tag ∷ more → (tag ≡ 0x79 → ⊥) → size ≡ item_size (tag ∷ more)
+    → after ≡ drop size rest → next_inside ≡ is_inside inside tag → new ≡ old ++ item_text tags d inside tag (take size rest) rest
+    → old ++ items_text tags d inside 0 rest ≡ whole → new ++ items_text tags d next_inside 0 after ≡ whole
+text_goes_on tags d inside next_inside whole old rest after more new tag size is other sized next turned added before =
+    let line : List ℕ = item_text tags d inside tag (take size rest) rest in
+    let later : items_text tags d next_inside 0 after ≡ items_text tags d (is_inside inside tag) (item_size (tag ∷ more) - 1) more =
+    ap (λ (v : Bool). items_text tags d v 0 after) turned
+    ∙ ap (items_text tags d (is_inside inside tag) 0) (after_front rest after more tag size is sized next)
+    ∙ sym (skip_text tags d (is_inside inside tag) (item_size (tag ∷ more) - 1) more)
     in
-    let step : items_text d inside 0 rest ≡ line ++ items_text d next_inside 0 after =
-    ap (items_text d inside 0) is ∙ text_step d inside tag more other
-    ∙ ap (λ (l : List ℕ). item_text d inside tag l (tag ∷ more) ++ items_text d (is_inside inside tag) (item_size (tag ∷ more) - 1) more) (sym (here rest more tag size is sized))
-    ∙ ap (λ (l : List ℕ). item_text d inside tag (take size rest) l ++ items_text d (is_inside inside tag) (item_size (tag ∷ more) - 1) more) (sym is)
+    let step : items_text tags d inside 0 rest ≡ line ++ items_text tags d next_inside 0 after =
+    ap (items_text tags d inside 0) is ∙ text_step tags d inside tag more other
+    ∙ ap (λ (l : List ℕ). item_text tags d inside tag l (tag ∷ more) ++ items_text tags d (is_inside inside tag) (item_size (tag ∷ more) - 1) more) (sym (here rest more tag size is sized))
+    ∙ ap (λ (l : List ℕ). item_text tags d inside tag (take size rest) l ++ items_text tags d (is_inside inside tag) (item_size (tag ∷ more) - 1) more) (sym is)
     ∙ ap (λ (l : List ℕ). line ++ l) (sym later)
     in
-    ap (λ (l : List ℕ). l ++ items_text d next_inside 0 after) added ∙ append_assoc old line (items_text d next_inside 0 after) ∙ ap (λ (l : List ℕ). old ++ l) (sym step) ∙ before
+    ap (λ (l : List ℕ). l ++ items_text tags d next_inside 0 after) added ∙ append_assoc old line (items_text tags d next_inside 0 after) ∙ ap (λ (l : List ℕ). old ++ l) (sym step) ∙ before
 
-pub text_ends : (d : ℕ) (inside : Bool) (whole now rest more : List ℕ) (tag : ℕ) → rest ≡ tag ∷ more → tag ≡ 0x79 → now ++ items_text d inside 0 rest ≡ whole → now ++ [] ≡ whole
-text_ends d inside whole now rest more tag is end before =
-    let none : items_text d inside 0 rest ≡ [] = ap (items_text d inside 0) is ∙ rw end refl in
+pub text_ends : (tags d : ℕ) (inside : Bool) (whole now rest more : List ℕ) (tag : ℕ) → rest ≡ tag ∷ more → tag ≡ 0x79 → now ++ items_text tags d inside 0 rest ≡ whole → now ++ [] ≡ whole
+text_ends tags d inside whole now rest more tag is end before =
+    let none : items_text tags d inside 0 rest ≡ [] = ap (items_text tags d inside 0) is ∙ rw end refl in
     ap (λ (l : List ℕ). now ++ l) (sym none) ∙ before
 
 -- ---- numbers of four bytes

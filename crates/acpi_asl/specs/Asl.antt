@@ -1,11 +1,12 @@
 -- The ASL of terms and of a definition block (ACPI 6.5, 19.2).
-use Rattle.std.specs.Prelude.{◌≡◌, ℕ, ◌==◌, Bool, if◌then◌else◌, List, [], ◌∷◌, ◌++◌, take, drop, slice_index, codes, ◌+◌}
+use Rattle.std.specs.Prelude.{◌≡◌, ℕ, Bool, if◌then◌else◌, List, [], ◌++◌, take, drop, slice_index, codes}
 use Rattle.std.specs.Fmt.{decimal}
 use Rattle.acpi_base.specs.Bytes.{field_at}
 use Rattle.acpi_term.specs.Tree.{Head, Terms, end, term, count}
 use Rattle.acpi_term.specs.View.{Parts}
 use Rattle.acpi_asl.specs.declared.place.Body.TheVariants.{Statements}
 use Rattle.acpi_asl.specs.declared.place.Place.{Place}
+use Rattle.acpi_asl.specs.Absent.{absent_text}
 use Rattle.acpi_asl.specs.Content.{up_to_zero}
 use Rattle.acpi_asl.specs.Note.{note}
 use Rattle.acpi_asl.specs.Number.{hex, string_text}
@@ -71,7 +72,8 @@ creator header =
 abbrev pub block_line : List ℕ → List ℕ
 block_line header = creator header ++ definition header
 
--- the definition block of a header and terms
+-- The definition block of a header and terms. The External statements of what it has no object for come first.
 abbrev pub asl_text : List ℕ → Terms → List ℕ
 asl_text header ts =
-    block_line header ++ opened Statements 0 ++ texts (in_braces Statements) 0 ts ++ closed Statements 0 ++ codes "\n"
+    block_line header ++ opened Statements 0 ++ absent_text ts ++ texts (in_braces Statements) 0 ts ++ closed Statements 0
+    ++ codes "\n"

@@ -1,6 +1,6 @@
 -- Where terms stand in the text of another: in its parentheses, or in its braces.
 use Rattle.std.specs.Prelude.{ℕ, zero, suc, ◌-◌, nat_le, ◌==◌, ◌&&◌, ◌||◌, not, Bool, true, false, if◌then◌else◌, List}
-use Rattle.std.specs.Prelude.{[], ◌∷◌, ◌++◌, codes}
+use Rattle.std.specs.Prelude.{◌+◌, ◌*◌, [], ◌∷◌, ◌++◌, codes}
 use Rattle.std.specs.Str.{bytes_eq}
 use Rattle.acpi_term.specs.declared.op.Op.{Op}
 use Rattle.acpi_term.specs.declared.op.Op.TheVariants as op
@@ -49,15 +49,15 @@ targets _ = 0
 -- this many arguments, after others of the term itself or not, of which the last ones are targets; and what is in the braces
 abbrev pub in_place : ℕ → Bool → ℕ → Body → Place
 in_place n led last body =
-    record { arguments = n; led = led; targets = last; body = body; ids = false; uuids = false; externals = false }
+    record { arguments = n; led = led; targets = last; body = body; ids = false; uuids = false; tags = 0; externals = false }
 
 -- in the braces alone
 abbrev pub in_braces : Body → Place
 in_braces body = in_place 0 false 0 body
 
--- the same, where numbers are ids or not, and buffers of 16 bytes are UUIDs or not
-abbrev pub with_ids : Bool → Bool → Place → Place
-with_ids ids uuids p =
+-- the same, where numbers are ids or not, buffers of 16 bytes are UUIDs or not, and the tags of templates have this number
+abbrev pub with_values : Bool → Bool → ℕ → Place → Place
+with_values ids uuids tags p =
     record {
       arguments = p.arguments;
       led = p.led;
@@ -65,6 +65,7 @@ with_ids ids uuids p =
       body = p.body;
       ids = ids;
       uuids = uuids;
+      tags = tags;
       externals = p.externals;
     }
 
@@ -78,6 +79,7 @@ with_externals externals p =
       body = p.body;
       ids = p.ids;
       uuids = p.uuids;
+      tags = p.tags;
       externals = externals;
     }
 
@@ -97,6 +99,16 @@ has_ids ids _ = false
 abbrev pub has_uuids : Head → Bool
 has_uuids (op op.LEqual) = true
 has_uuids _ = false
+
+-- The number of the tags in the resource template that is the value of a name. The tags of a template are names of the scope around
+-- it, so other names of a scope should have other numbers: that of this segment is one of 471,240.
+abbrev pub tags_by : List ℕ → ℕ
+tags_by (a ∷ b ∷ c ∷ d ∷ []) = 1021 * a + 509 * b + 251 * c + 67 * d
+tags_by _ = 0
+
+abbrev pub tags : Head → ℕ
+tags (def_name name) = tags_by (last_segment name)
+tags _ = 0
 
 -- Where the n children of a head begin (ACPI 6.5, 19.2.3 to 19.2.5).
 abbrev pub place : Head → ℕ → Place
@@ -128,13 +140,13 @@ place _ n = in_braces Absent
 
 -- the same, if the head stands in a place
 abbrev pub place_in : Place → Head → ℕ → Place
-place_in p h n = with_ids (has_ids p.ids h) (has_uuids h) (place h n)
+place_in p h n = with_values (has_ids p.ids h) (has_uuids h) (tags h) (place h n)
 
 -- the place after one term, which is a block of External statements or not
 abbrev pub next : Place → Bool → Place
 next p externals =
     with_externals externals
-    (with_ids p.ids p.uuids (in_place (p.arguments - 1) (not (p.arguments == 1)) p.targets p.body))
+    (with_values p.ids p.uuids p.tags (in_place (p.arguments - 1) (not (p.arguments == 1)) p.targets p.body))
 
 abbrev pub has_braces : Body → Bool
 has_braces Absent = false

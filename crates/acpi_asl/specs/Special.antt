@@ -99,6 +99,6 @@ is_special p h w children =
 abbrev pub special_text : Place → Head → ℕ → Terms → ℕ → List ℕ
 special_text p (number v) w children d = if is_left_out p (number v) w then [] else eisa_text v
 special_text p (def_buffer bytes) w children d =
-    if is_uuid p (def_buffer bytes) children then to_uuid bytes else template_text d bytes
+    if is_uuid p (def_buffer bytes) children then to_uuid bytes else template_text p.tags d bytes
 special_text p (unread error bytes) w children d = unread_text error bytes d
 special_text p _ w children d = externals_text d true (after_first children)

@@ -16,12 +16,13 @@ use Rattle.acpi_asl.specs.Word.{word_in}
 
 -- ---- the arguments of a macro
 
--- A name of four characters, by how many bytes of the template begin with the item: so no two items of a template have the same.
+-- A name of four characters, by a number: that of the template's tags, and how many bytes of the template begin with the item. So
+-- no two items of a template have the same.
 abbrev pub tag_text : ℕ → List ℕ
 tag_text n = 0x59 ∷ upper_digit (n / 256 % 16) ∷ upper_digit (n / 16 % 16) ∷ upper_digit (n % 16) ∷ []
 
--- The text of an argument, if a template has n bytes from the item on. A compiler accepts a range that is zero, which is set when
--- the code runs, only if its descriptor has a name.
+-- The text of an argument; n is the number of a tag. A compiler accepts a range that is zero, which is set when the code runs, only
+-- if its descriptor has a tag.
 abbrev pub part_text : List ℕ → ℕ → Part → List ℕ
 part_text item n (parts.Word x kind) = word_in (words kind) (value_of item x)
 part_text item n (parts.Number offset w) = codes "0x" ++ digits_at w offset item
@@ -174,20 +175,21 @@ front_text d inside tag =
     if begins_group tag || ends_groups tag then group_closes d inside ++ new_line d
     else new_line (if inside then suc d else d)
 
--- the item at the front, on a line at a depth
-abbrev pub item_text : ℕ → Bool → ℕ → List ℕ → List ℕ → List ℕ
-item_text d inside tag item bytes = front_text d inside tag ++ found_text (found item) (length bytes) item ++ group_opens d tag
+-- the item at the front, on a line at a depth; a tag in it is the number of the bytes from it on, and `tags` more
+abbrev pub item_text : ℕ → ℕ → Bool → ℕ → List ℕ → List ℕ → List ℕ
+item_text tags d inside tag item bytes =
+    front_text d inside tag ++ found_text (found item) (tags + length bytes) item ++ group_opens d tag
 
 -- the macros of the items, each on a line at a depth
-abbrev pub items_text : ℕ → Bool → ℕ → List ℕ → List ℕ
-items_text d inside left [] = []
-items_text d inside (suc left) (b ∷ bytes) = items_text d inside left bytes
-items_text d inside zero (b ∷ bytes) =
+abbrev pub items_text : ℕ → ℕ → Bool → ℕ → List ℕ → List ℕ
+items_text tags d inside left [] = []
+items_text tags d inside (suc left) (b ∷ bytes) = items_text tags d inside left bytes
+items_text tags d inside zero (b ∷ bytes) =
     if b == 0x79 then []
-    else item_text d inside b (item (b ∷ bytes)) (b ∷ bytes)
-    ++ items_text d (is_inside inside b) (item_size (b ∷ bytes) - 1) bytes
+    else item_text tags d inside b (item (b ∷ bytes)) (b ∷ bytes)
+    ++ items_text tags d (is_inside inside b) (item_size (b ∷ bytes) - 1) bytes
 
 -- the template of these bytes at a depth
-abbrev pub template_text : ℕ → List ℕ → List ℕ
-template_text d bytes =
-    codes "ResourceTemplate ()" ++ (new_line d ++ codes "{") ++ items_text (suc d) false 0 bytes ++ (new_line d ++ codes "}")
+abbrev pub template_text : ℕ → ℕ → List ℕ → List ℕ
+template_text tags d bytes =
+    codes "ResourceTemplate ()" ++ (new_line d ++ codes "{") ++ items_text tags (suc d) false 0 bytes ++ (new_line d ++ codes "}")

@@ -11,6 +11,7 @@ ghost use Rattle.acpi_asl.specs.Opening.{further};
 ghost use Rattle.acpi_asl.specs.Row.{rows};
 ghost use Rattle.acpi_asl.specs.Place.{closed};
 
+use crate::absent::push_absents;
 use crate::content::up_to_zero;
 use crate::note::push_note;
 use crate::number::push_string;
@@ -34,6 +35,7 @@ const STATEMENTS: Place = Place {
     body: Body::Statements,
     ids: false,
     uuids: false,
+    tags: 0,
     externals: false,
 };
 
@@ -209,6 +211,7 @@ pub fn asl_of(alloc: Global, header: &[u8], terms: &[Term]) -> Result<String, Al
     let mut text = String::new(alloc);
     push_block_line(header, &mut text)?;
     push_opened(Body::Statements, 0, &mut text)?;
+    push_absents(alloc, terms, &mut text)?;
     push_terms(STATEMENTS, 0, terms, &mut text)?;
     push_closed(Body::Statements, 0, &mut text)?;
     text.push_str("\n")?;

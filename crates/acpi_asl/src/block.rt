@@ -3,19 +3,18 @@
 ghost use Rattle.std.specs.Prelude.{◌≡◌, ◌+◌, ◌≤◌, length, drop, map, string_bytes, IfOk, IfErr, IfSome};
 ghost use Rattle.acpi_term.specs.ReadError.{offset_of};
 ghost use Rattle.acpi_term.specs.View.{views};
+ghost use Rattle.acpi_terms_text.specs.Block.{AreNoTerms};
 ghost use Rattle.acpi_terms_text.specs.Objects.{callee_by};
-ghost use Rattle.acpi_asl.specs.Block.{begins_block, has_terms, block_text, IsBlockText, IsTextInPart, AreNoTerms};
+ghost use Rattle.acpi_asl.specs.Block.{begins_block, has_terms, block_text, IsBlockText, IsTextInPart};
 
 use crate::asl::asl_of;
 use crate::namespace::namespace_of;
 use crate::objects::objects_of;
-use acpi_read::terms::in_part::terms_in_part;
-use acpi_read::terms::standard_terms;
 use acpi_term::name_string::Arities;
 use acpi_term::read_error::ReadError;
 use acpi_term::term::Term;
-use acpi_terms_text::objects::{Object, own_arities};
-use acpi_terms_text::scoped::in_scopes;
+use acpi_terms_text::block::{block_terms, block_terms_in_part};
+use acpi_terms_text::objects::Object;
 use std::alloc::{AllocError, Global};
 
 /// The offset of the terms of a definition block: they follow its header (ACPI 6.5, 5.2.11.1).
@@ -81,16 +80,14 @@ fn text_of_body(
     ensures err { IfErr result (AreNoTerms stated.now (map callee_by further.now) body.now) }
     ensures place { IfErr result (λ e. IfSome (offset_of e) (λ offset. offset ≤ length body.now)) }
 {
-    let own = own_arities(alloc, body, stated, further)?;
-    let whole = standard_terms(body, &own)?;
-    let terms = in_scopes(alloc, stated, further, &own, whole)?;
+    let terms = block_terms(alloc, body, stated, further)?;
     let text = text_of_terms(alloc, block, header, &terms)?;
     Ok(text)
 }
 
 /// Returns the text of a definition block. Its terms are read in the language of the standard. Names take the stated numbers of
 /// arguments, or else those of the objects of the block and of further blocks: in a method those of the nearest ones (ACPI 6.5,
-/// 5.3). The errors are those of `standard_terms`, with offsets from the first byte after the header.
+/// 5.3). The errors are those of `block_terms`, with offsets from the first byte after the header.
 pub fn text_of_block(
     alloc: Global,
     block: BlockText,
@@ -120,8 +117,6 @@ pub fn text_in_part(
     ensures { IfOk result (λ text. IsTextInPart block stated.now (map callee_by further.now) bytes.now (string_bytes text)) }
 {
     let (_, body) = bytes.split_at(BODY);
-    let own = own_arities(alloc, body, stated, further)?;
-    let whole = terms_in_part(body, &own)?;
-    let terms = in_scopes(alloc, stated, further, &own, whole)?;
+    let terms = block_terms_in_part(alloc, body, stated, further)?;
     text_of_terms(alloc, block, bytes, &terms)
 }

@@ -1,6 +1,7 @@
 //! Definition blocks as ASL, the source language of ACPI (ACPI 6.5, chapter 19), and the objects that they make.
 #![tactic(auto)]
 
+mod absent;
 pub mod asl;
 pub mod block;
 mod connection;

@@ -2,7 +2,7 @@
 
 ghost use Rattle.std.specs.Prelude.{◌≡◌, ◌++◌, [], codes, if◌then◌else◌, IfOk, OnOk, string_bytes};
 ghost use Rattle.acpi_term.specs.View.{head_of};
-ghost use Rattle.acpi_asl.specs.Place.{is_id_name, has_ids, has_uuids, place_in, targets, place, next, has_braces};
+ghost use Rattle.acpi_asl.specs.Place.{is_id_name, has_ids, has_uuids, tags_by, tags, place_in, targets, place, next, has_braces};
 ghost use Rattle.acpi_asl.specs.Place.{is_elements, is_statements, is_statement, is_null};
 ghost use Rattle.acpi_asl.specs.Place.{is_left_out, spaces, new_line, depth_in, opened, closed, separator, before, after};
 
@@ -37,6 +37,8 @@ pub struct Place {
     pub ids: bool,
     /// Whether buffers of 16 bytes are UUIDs: the operands of a comparison.
     pub uuids: bool,
+    /// The number from which the tags of a resource template count.
+    pub tags: u32,
     /// Whether the term before is a block of External statements.
     pub externals: bool,
 }
@@ -87,6 +89,7 @@ fn in_place(arguments: usize, led: bool, targets: usize, body: Body) -> Place
         body,
         ids: false,
         uuids: false,
+        tags: 0,
         externals: false,
     }
 }
@@ -146,6 +149,27 @@ fn has_uuids(kind: Kind<'_>) -> bool
     }
 }
 
+// The number of the tags in the resource template that is the value of a name.
+fn tags_by(segment: &[u8]) -> u32
+    ensures { result ≡ tags_by segment.now }
+{
+    match segment {
+        [a, b, c, d] => {
+            1021 * u32::from(*a) + 509 * u32::from(*b) + 251 * u32::from(*c) + 67 * u32::from(*d)
+        }
+        _ => 0,
+    }
+}
+
+fn tags(kind: Kind<'_>) -> u32
+    ensures { result ≡ tags (head_of kind.entry) }
+{
+    match kind {
+        Kind::Name(name) => tags_by(last_segment(name.as_bytes())),
+        _ => 0,
+    }
+}
+
 /// The same, if the term stands in a place.
 pub fn place_in(place: Place, kind: Kind<'_>, count: usize) -> Place
     ensures { result ≡ place_in place (head_of kind.entry) count }
@@ -158,6 +182,7 @@ pub fn place_in(place: Place, kind: Kind<'_>, count: usize) -> Place
         body: inside.body,
         ids: has_ids(place.ids, kind),
         uuids: has_uuids(kind),
+        tags: tags(kind),
         externals: inside.externals,
     }
 }
@@ -173,6 +198,7 @@ pub fn next(place: Place, externals: bool) -> Place
         body: place.body,
         ids: place.ids,
         uuids: place.uuids,
+        tags: place.tags,
         externals,
     }
 }

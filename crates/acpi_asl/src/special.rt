@@ -295,14 +295,20 @@ fn push_to_uuid(bytes: &[u8], text: &mut String) -> Result<(), AllocError>
     text.push_str("\")")
 }
 
-fn push_buffer(uuid: bool, depth: usize, bytes: &[u8], text: &mut String) -> Result<(), AllocError>
+fn push_buffer(
+    uuid: bool,
+    tags: u32,
+    depth: usize,
+    bytes: &[u8],
+    text: &mut String,
+) -> Result<(), AllocError>
     ensures { OnOk result (string_bytes text.new ≡ string_bytes text.old
-        ++ (if uuid then to_uuid bytes.now else template_text depth bytes.now)) }
+        ++ (if uuid then to_uuid bytes.now else template_text tags depth bytes.now)) }
 {
     if uuid {
         return push_to_uuid(bytes, text);
     }
-    push_template(depth, bytes, text)
+    push_template(tags, depth, bytes, text)
 }
 
 /// Adds the text of a special term at its depth.
@@ -324,7 +330,7 @@ pub fn push_special(
         }
         Kind::Buffer(bytes) => {
             let uuid = is_uuid_buffer(place, bytes, parts.first, parts.others);
-            push_buffer(uuid, depth, bytes, text)
+            push_buffer(uuid, place.tags, depth, bytes, text)
         }
         Kind::Unread(error, bytes) => push_unread(error, bytes, depth, text),
         _ => {

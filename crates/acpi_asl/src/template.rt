@@ -127,6 +127,7 @@ fn push_front(depth: usize, inside: bool, tag: u8, text: &mut String) -> Result<
 // Adds the item at the front, on a new line.
 #[tactic(auto, using(acpi_read::proofs::Texts::after_three))]
 fn push_item_line(
+    tags: u32,
     depth: usize,
     inside: bool,
     tag: u8,
@@ -135,15 +136,15 @@ fn push_item_line(
     text: &mut String,
 ) -> Result<(), AllocError>
     ensures { OnOk result (string_bytes text.new ≡ string_bytes text.old
-        ++ item_text depth inside tag (take size bytes.now) bytes.now) }
+        ++ item_text tags depth inside tag (take size bytes.now) bytes.now) }
 {
     push_front(depth, inside, tag, text)?;
-    push_item(item(bytes, size), bytes.len(), text)?;
+    push_item(item(bytes, size), tags as usize + bytes.len(), text)?;
     push_start(depth, tag, text)
 }
 
-fn push_items(depth: usize, bytes: &[u8], text: &mut String) -> Result<(), AllocError>
-    ensures { OnOk result (string_bytes text.new ≡ string_bytes text.old ++ items_text depth false 0 bytes.now) }
+fn push_items(tags: u32, depth: usize, bytes: &[u8], text: &mut String) -> Result<(), AllocError>
+    ensures { OnOk result (string_bytes text.new ≡ string_bytes text.old ++ items_text tags depth false 0 bytes.now) }
 {
     let mut rest = bytes;
     let mut inside = false;
@@ -152,17 +153,22 @@ fn push_items(depth: usize, bytes: &[u8], text: &mut String) -> Result<(), Alloc
             return Ok(());
         }
         let size = item_size(*tag, more);
-        push_item_line(depth, inside, *tag, rest, size, text)?;
+        push_item_line(tags, depth, inside, *tag, rest, size, text)?;
         rest = after_item(rest, size);
         inside = is_inside(inside, *tag);
     }
     Ok(())
 }
 
-/// Adds the template of these bytes at a depth.
+/// Adds the template of these bytes at a depth. Its tags count from a number.
 #[inline(never)]
-pub fn push_template(depth: usize, bytes: &[u8], text: &mut String) -> Result<(), AllocError>
-    ensures { OnOk result (string_bytes text.new ≡ string_bytes text.old ++ template_text depth bytes.now) }
+pub fn push_template(
+    tags: u32,
+    depth: usize,
+    bytes: &[u8],
+    text: &mut String,
+) -> Result<(), AllocError>
+    ensures { OnOk result (string_bytes text.new ≡ string_bytes text.old ++ template_text tags depth bytes.now) }
 {
     // No memory has room for an indentation of this depth.
     let Some(inner) = depth.checked_add(1) else {
@@ -170,7 +176,7 @@ pub fn push_template(depth: usize, bytes: &[u8], text: &mut String) -> Result<()
     };
     text.push_str("ResourceTemplate ()")?;
     push_opened(Body::Rows, depth, text)?;
-    push_items(inner, bytes, text)?;
+    push_items(tags, inner, bytes, text)?;
     push_closed(Body::Rows, depth, text)?;
     Ok(())
 }

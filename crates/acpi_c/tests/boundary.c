@@ -489,6 +489,7 @@ static void try_compile(void) {
 static void try_among(void) {
     static const char asl[] = "/*= Creator \"RVAT\", 0x01000000 */\n"
                               "DefinitionBlock (\"\", \"SSDT\", 2, \"FOOBAR\", \"CAFEDEAD\", 0x00000001)\n{\n"
+                              "    /*= Absent */ External (\\MTHD, MethodObj, UnknownObj, {UnknownObj})\n"
                               "    Store (MTHD (One), Local0)\n}\n";
     static const struct {
         among_text *text;

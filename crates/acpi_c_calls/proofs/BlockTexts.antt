@@ -1,6 +1,7 @@
 -- The texts of definition blocks that were made.
 use Rattle.std.proofs.Common.{◌≡◌, ℕ, List, Result, Ok, Err, IfOk, IfErr, true, [], drop, inr}
-use Rattle.acpi_asl.specs.Block.{has_terms, IsBlockText, AreNoTerms}
+use Rattle.acpi_asl.specs.Block.{has_terms, IsBlockText}
+use Rattle.acpi_terms_text.specs.Block.{AreNoTerms}
 use Rattle.acpi_asl.specs.declared.block.BlockText.{BlockText}
 use Rattle.acpi_base.specs.Table.{IsTrueTable}
 use Rattle.acpi_term.specs.declared.read_error.ReadError.{ReadError}

@@ -1,7 +1,8 @@
 -- Texts of definition blocks that have one namespace with further blocks (ACPI 6.5, 5.3).
 use Rattle.std.specs.Prelude.{◌≡◌, ◌≢◌, ◌⊎◌, ℕ, ◌+◌, true, List, [], ◌∷◌, ◌++◌, length, take, drop}
 use Rattle.std.specs.List.{concat}
-use Rattle.acpi_asl.specs.Block.{has_terms, IsBlockText, IsTextInPart, AreNoTerms}
+use Rattle.acpi_asl.specs.Block.{has_terms, IsBlockText, IsTextInPart}
+use Rattle.acpi_terms_text.specs.Block.{AreNoTerms}
 use Rattle.acpi_asl.specs.declared.block.BlockText.{BlockText}
 use Rattle.acpi_base.specs.Table.{IsTrueTable}
 use Rattle.acpi_term.specs.ReadError.{offset_of}

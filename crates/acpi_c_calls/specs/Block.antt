@@ -1,7 +1,8 @@
 -- Texts of definition blocks.
 use Rattle.std.specs.Prelude.{◌≡◌, ◌⊎◌, ℕ, ◌+◌, true, false, List, [], drop}
 use Rattle.std.specs.Option.{option_map}
-use Rattle.acpi_asl.specs.Block.{has_terms, IsBlockText, AreNoTerms}
+use Rattle.acpi_asl.specs.Block.{has_terms, IsBlockText}
+use Rattle.acpi_terms_text.specs.Block.{AreNoTerms}
 use Rattle.acpi_asl.specs.declared.block.BlockText.{BlockText}
 use Rattle.acpi_base.specs.Table.{IsTrueTable}
 use Rattle.acpi_term.specs.ReadError.{offset_of}

@@ -1,7 +1,8 @@
 //! Texts of definition blocks.
 
 ghost use Rattle.std.specs.Prelude.{◌≡◌, ◌≤◌, ◌+◌, ◌<◌, ◌^◌, [], true, length, drop, IfOk, IfErr, IfSome, string_bytes};
-ghost use Rattle.acpi_asl.specs.Block.{has_terms, IsBlockText, AreNoTerms};
+ghost use Rattle.acpi_asl.specs.Block.{has_terms, IsBlockText};
+ghost use Rattle.acpi_terms_text.specs.Block.{AreNoTerms};
 ghost use Rattle.acpi_asl.specs.declared.block.BlockText.TheVariants as blocks;
 ghost use Rattle.acpi_base.specs.Table.{IsTrueTable};
 ghost use Rattle.acpi_term.specs.ReadError.{offset_of};

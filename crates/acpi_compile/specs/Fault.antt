@@ -10,6 +10,9 @@ abbrev pub otherwise : List ℕ → List ℕ
 otherwise [] = codes "the ASL of the block ends here"
 otherwise (c ∷ word) = codes "the ASL of the block has " ++ map printable (c ∷ word)
 
+abbrev pub undeclared : List ℕ → List ℕ
+undeclared name = codes "no External statement for " ++ map printable name
+
 abbrev pub words : Why → List ℕ
 words why.Block = codes "a DefinitionBlock is expected, and nothing after it"
 words why.Unexpected = codes "not expected here"
@@ -25,6 +28,7 @@ words why.Descriptor = codes "no macro of a resource descriptor, or other argume
 words why.Note = codes "the note isn't known here"
 words why.Unread = codes "bytes that aren't read make no block"
 words why.TooLong = codes "a length or a number is too large"
+words (why.Undeclared name) = undeclared name.items
 words (why.Otherwise word) = otherwise word.items
 
 abbrev pub place_text : List ℕ → List ℕ

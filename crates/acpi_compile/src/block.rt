@@ -8,6 +8,7 @@ ghost use Rattle.acpi_compile.specs.Compiled.{IsKeptOf, after_note, IsShownAs, I
 use crate::builder::{MAX_LISTS, nodes_of};
 use crate::fault::{AslError, Why, fault, unwritten};
 use crate::node::{Node, list_of, word_node};
+use crate::note::after;
 use crate::number::{decimal, string};
 use crate::squeeze::{is_word, squeezed, word_at};
 use crate::stated::stated;
@@ -176,6 +177,11 @@ fn place_of(shown: &[u8], kept: &[u8]) -> usize {
 // The fault of a text at its first word that the ASL of the block doesn't have.
 fn unlike(alloc: Global, shown: &[u8], kept: &[u8]) -> Result<AslError, AslError> {
     let at = place_of(shown, kept);
+    let rest = shown.get(at..).unwrap_or(&[]);
+    if let Some(rest) = after(rest, b"/*= Absent */External(") {
+        let name = Vec::from_slice(alloc, word_at(0, rest))?;
+        return Ok(fault(at, Why::Undeclared(name)));
+    }
     let word = Vec::from_slice(alloc, word_at(at, shown))?;
     Ok(fault(at, Why::Otherwise(word)))
 }

@@ -3,7 +3,7 @@
 ghost use Rattle.std.specs.Prelude.{◌≡◌, ◌++◌, map, codes, IfOk, OnOk, string_bytes};
 ghost use Rattle.acpi_read.specs.Report.{printable};
 ghost use Rattle.acpi_compile.specs.declared.fault.AslError.TheVariants.{Memory};
-ghost use Rattle.acpi_compile.specs.Fault.{words, otherwise, place_text, explained};
+ghost use Rattle.acpi_compile.specs.Fault.{words, undeclared, otherwise, place_text, explained};
 ghost use Rattle.acpi_compile.specs.Squeeze.{line_of};
 
 use crate::squeeze::{line_of, squeezed, word_at};
@@ -42,6 +42,8 @@ pub enum Why {
     Unread,
     /// A list, a number or a table is too long.
     TooLong,
+    /// The block has no object of this name, and the text has no External statement for it.
+    Undeclared(Vec<u8>),
     /// The ASL of the block has this word here.
     Otherwise(Vec<u8>),
 }
@@ -113,9 +115,19 @@ impl Why {
             Why::Note => text.push_str("the note isn't known here"),
             Why::Unread => text.push_str("bytes that aren't read make no block"),
             Why::TooLong => text.push_str("a length or a number is too large"),
+            Why::Undeclared(name) => push_undeclared(name, text),
             Why::Otherwise(word) => push_otherwise(word, text),
         }
     }
+}
+
+// Adds the name of which there is no object.
+fn push_undeclared(name: &[u8], text: &mut String) -> Result<(), AllocError>
+    ensures { OnOk result (string_bytes text.new ≡ string_bytes text.old ++ undeclared name.now) }
+{
+    text.push_str("no External statement for ")?;
+    push_shown(name, text)?;
+    Ok(())
 }
 
 // Adds the word that the ASL of a block has, or that it ends.

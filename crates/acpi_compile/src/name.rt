@@ -42,22 +42,19 @@ fn push_prefixes<'a>(text: &'a [u8], bytes: &mut Vec<u8>) -> Result<&'a [u8], As
 // Adds the segments of a name, with what says how many there are (ACPI 6.5, 20.2.2). Returns whether it is a name.
 fn push_segments(alloc: Global, text: &[u8], bytes: &mut Vec<u8>) -> Result<bool, AslError> {
     let mut segments = Vec::new(alloc);
-    let mut count: usize = 0;
     'segments: for part in text.split(|c| *c == b'.') {
         let Some(four) = segment(part) else {
             return Ok(false);
         };
         segments.extend_from_slice(&four)?;
-        count = count.saturating_add(1);
     }
-    match u8::try_from(count) {
-        Ok(1) => {}
-        Ok(2) => bytes.push(0x2e)?,
-        Ok(many) => bytes.extend_from_slice(&[0x2f, many])?,
-        Err(_) => return Ok(false),
+    match NameString::of_segments(alloc, false, &segments)? {
+        Some(name) => {
+            bytes.extend_from_slice(name.as_bytes())?;
+            Ok(true)
+        }
+        None => Ok(false),
     }
-    bytes.extend_from_slice(&segments)?;
-    Ok(true)
 }
 
 // The bytes that spell a name, or none for another text.

@@ -2,8 +2,8 @@
 
 use crate::node::Node;
 
-// The characters of a note after this front.
-fn after<'a>(note: &'a [u8], front: &[u8]) -> Option<&'a [u8]> {
+/// The characters after this front.
+pub fn after<'a>(note: &'a [u8], front: &[u8]) -> Option<&'a [u8]> {
     if note.starts_with(front) {
         note.get(front.len()..)
     } else {
@@ -47,6 +47,12 @@ impl Node<'_> {
     /// Whether a note says that an External statement begins a block of such statements after another.
     pub fn begins_block(&self) -> bool {
         rest_of(self.note) == b"/*= Block */".as_slice()
+    }
+
+    /// Whether a note says that an External statement makes no term: it is there for a compiler, since the block has no object of
+    /// this name.
+    pub fn is_for_compilers(&self) -> bool {
+        self.note == b"/*= Absent */".as_slice()
     }
 
     /// Whether the note is known that stands before a term.

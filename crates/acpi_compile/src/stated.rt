@@ -29,7 +29,7 @@ fn push_declared<'a>(
     };
     'nodes: for node in nodes {
         if let [name, ..] = list_of(&node.arguments) {
-            if matches!(node.word, b"Method" | b"External") {
+            if matches!(node.word, b"Method" | b"External") && !node.is_for_compilers() {
                 declared.push(last(name.word))?;
             }
         }
@@ -69,6 +69,10 @@ fn add_called(
         return Ok(());
     };
     'nodes: for node in nodes {
+        // The macros of descriptors, such as `IRQ`, may be names elsewhere.
+        if matches!(node.word, b"ResourceTemplate") {
+            continue;
+        }
         if is_stated(declared, node) {
             let name = name(alloc, node.at, node.word)?;
             let count = list_of(&node.arguments).len();

@@ -568,6 +568,9 @@ pub fn statements(
     let mut list = SizedList::new(alloc);
     let mut externals = Externals::new(alloc, None);
     'nodes: for node in nodes {
+        if node.is_for_compilers() {
+            continue;
+        }
         let sized = term(context, depth, node)?;
         let in_block = matches!(node.word, b"External") && !node.stands_alone();
         // The notes on a block stand before its first statement.

@@ -4,6 +4,7 @@ pub mod Templates
 pub mod Runs
 pub mod Walks
 pub mod Scopes
+pub mod Wholes
 pub mod Relative
 pub mod Operands
 pub mod Segments

@@ -1,11 +1,11 @@
 -- Names after `^`, and objects by their paths from scopes.
-use Rattle.std.proofs.Common.{◌≡◌, ℕ, zero, suc, ◌/◌, ◌-◌, ◌<◌, ◌≤◌, ◌==◌, Bool, true, false, cond, eqb, List, [], ◌∷◌, ◌++◌, length, Option, Some, None, refl, sym, ap, subst, ◌∙◌, arith}
+use Rattle.std.proofs.Common.{◌≡◌, ℕ, zero, suc, ◌/◌, ◌-◌, ◌<◌, ◌==◌, Bool, true, false, cond, eqb, List, [], ◌∷◌, ◌++◌, length, Option, Some, None, refl, sym, ap, subst, ◌∙◌, arith}
 use Rattle.std.specs.Prelude.{◌&&◌, nat_le}
 use Rattle.std.proofs.lemmas.List.{length-take-le}
 use Rattle.std.proofs.lemmas.Bool.{and_parts}
 use Rattle.std.proofs.lemmas.Bool.Decides.{nat_tests}
 use Rattle.acpi_term.specs.Arity.{with_all}
-use Rattle.acpi_term.specs.Name.{is_lead, is_part, is_segment, IsAbove, path_above, further_up, IsName, relative, rooted, IsNameString, as_written, root_alone, upwards}
+use Rattle.acpi_term.specs.Name.{is_lead, is_part, is_segment, IsAbove, path_above, further_up, relative, rooted, IsNameString, as_written, root_alone, upwards}
 use Rattle.acpi_term.specs.PathText.{is_rooted, are_segments, lead, name_of_segments}
 use Rattle.acpi_terms_text.specs.Objects.{Callee}
 use Rattle.acpi_terms_text.specs.Path.{parent}

@@ -1,5 +1,5 @@
 -- The numbers of arguments in scopes.
-use Rattle.std.proofs.Common.{◌≡◌, ℕ, zero, suc, ◌+◌, ◌-◌, ◌/◌, ◌<◌, ◌≤◌, ◌==◌, not, ◌&&◌, ◌||◌, Bool, true, false, List, [], ◌∷◌, ◌++◌, length, map, get_or, drop, subst, refl, sym, ap, ◌∙◌, arith}
+use Rattle.std.proofs.Common.{◌≡◌, ℕ, zero, suc, ◌+◌, ◌-◌, ◌<◌, ◌≤◌, ◌==◌, not, ◌&&◌, ◌||◌, Bool, true, false, List, [], ◌∷◌, ◌++◌, length, map, get_or, drop, subst, refl, sym, ap, ◌∙◌, arith}
 use Rattle.std.proofs.Math.ListN.{set}
 use Rattle.acpi_read.proofs.Texts.{dropped}
 use Rattle.acpi_term.proofs.Depths.{others_shallow, element_shallow}
@@ -9,7 +9,7 @@ use Rattle.acpi_term.specs.declared.term.Term.{Term}
 use Rattle.acpi_term.specs.Arity.{arity, with_all}
 use Rattle.acpi_terms_text.specs.declared.objects.Object.{Object}
 use Rattle.acpi_terms_text.specs.Objects.{inside, Callee, callee_by}
-use Rattle.acpi_terms_text.specs.Scoped.{here, made_in, near, may_name, any, differ, AreIfRead, Body, space, code, other, body, OfBody, IsBody, AreScoped}
+use Rattle.acpi_terms_text.specs.Scoped.{here, made_in, near, may_name, any, differ, Body, space, code, other, body, OfBody, AreScoped}
 use Rattle.acpi_terms_text.specs.Path.{parent}
 use Rattle.acpi_terms_text.proofs.Walks.{both_added}
 

@@ -1,6 +1,7 @@
 pub mod Path
 pub mod Objects
 pub mod Scoped
+pub mod Block
 pub mod Eisa
 pub mod Uuid
 pub mod Descriptor

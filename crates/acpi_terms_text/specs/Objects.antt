@@ -239,10 +239,14 @@ all_callees terms further = callees (objects [] terms ++ further)
 abbrev pub own_numbers : List (List ℕ × ℕ) → List Callee → List (List ℕ × ℕ)
 own_numbers stated all = with_all (with_all stated (called all)) predefined
 
--- The objects of the terms that can be read of bytes, with the stated numbers.
+-- The numbers that a caller states, and those of the operating system: by them a block is read to find its objects.
+abbrev pub first_numbers : List (List ℕ × ℕ) → List (List ℕ × ℕ)
+first_numbers stated = with_all stated predefined
+
+-- The objects of the terms that can be read of bytes with these numbers.
 pub record AreObjectsIn (stated : List (List ℕ × ℕ)) (bytes : List ℕ) (all : List Callee) : Type 0 where
   pub terms : Terms
-  pub read : AreReadInPart (grammar_by Standard stated) bytes terms
+  pub read : AreReadInPart (grammar_by Standard (first_numbers stated)) bytes terms
   pub is : all ≡ objects [] terms
 
 -- They were added to others.

@@ -18,7 +18,7 @@ use Rattle.acpi_term.specs.declared.read_error.ReadError.TheVariants.{Memory}
 use Rattle.acpi_terms_text.specs.Objects.{inside, as_segment, counted, Callee, called, all_callees, named_in, predefined}
 use Rattle.acpi_terms_text.specs.Path.{parent, last_segment}
 use Rattle.acpi_terms_text.specs.declared.scoped.Sought.{Sought}
-use Rattle.acpi_terms_text.specs.declared.scoped.Sought.TheVariants.{Name, Path}
+use Rattle.acpi_terms_text.specs.declared.scoped.Sought.TheVariants.{Name, Path, Unread}
 
 -- ---- the objects that are near to a scope
 
@@ -93,10 +93,16 @@ may_be_path own (call name) = is_relative name && is_stated own (without_parents
 may_be_path own (unread error bytes) = true
 may_be_path own _ = false
 
+-- whether a head stands for bytes that aren't read
+abbrev pub is_unread : Head → Bool
+is_unread (unread error bytes) = true
+is_unread _ = false
+
 -- what is looked for in terms
 abbrev pub sought : Sought → Head → Bool
 sought (Name name) = may_name name.now
 sought (Path own) = may_be_path own.now
+sought Unread = is_unread
 
 -- Whether terms in a scope may have other numbers than those of a list, by which they were read.
 abbrev pub are_other : List (List ℕ × ℕ) → List Callee → List ℕ → Terms → Bool

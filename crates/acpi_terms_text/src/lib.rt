@@ -2,6 +2,7 @@
 #![tactic(auto)]
 
 pub mod annotate;
+pub mod block;
 mod descriptor;
 mod eisa;
 pub mod laws;

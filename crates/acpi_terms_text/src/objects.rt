@@ -12,7 +12,7 @@ ghost use Rattle.acpi_terms_text.specs.Objects.{own_unit, own_units, own_externa
 ghost use Rattle.acpi_terms_text.specs.Objects.{made_by, name_of, name_at, own_operand, own_objects, objects};
 ghost use Rattle.acpi_terms_text.specs.Objects.{segment_of, segments, segments_in, own_segments, all_among, all_callees};
 ghost use Rattle.acpi_terms_text.specs.Objects.{has_segment, keeps, all_kept};
-ghost use Rattle.acpi_terms_text.specs.Objects.{numbers, numbers_of, called, predefined, own_numbers};
+ghost use Rattle.acpi_terms_text.specs.Objects.{numbers, numbers_of, called, predefined, own_numbers, first_numbers};
 ghost use Rattle.acpi_terms_text.specs.Objects.{AreOwn, AddObjectsIn};
 
 use crate::path::{last_segment, path_in};
@@ -25,8 +25,8 @@ use acpi_term::segment::is_segment;
 use acpi_term::term::{Term, TermEntry};
 use std::alloc::{AllocError, Global};
 
-// The scope of a term's children, if it isn't the one around the term.
-fn inside(alloc: Global, scope: &[u8], kind: Kind<'_>) -> Result<Option<Vec<u8>>, AllocError>
+/// Returns the path of the scope of a term's children, if it isn't the scope around the term.
+pub fn inside(alloc: Global, scope: &[u8], kind: Kind<'_>) -> Result<Option<Vec<u8>>, AllocError>
     ensures { IfOk result (λ own. unwrap_or (option_map (λ path. path.items) own) scope.now
         ≡ inside scope.now (head_of kind.entry)) }
 {
@@ -42,8 +42,8 @@ fn inside(alloc: Global, scope: &[u8], kind: Kind<'_>) -> Result<Option<Vec<u8>>
     }
 }
 
-// The scope of a term's children: its own, or the one around the term.
-fn inner_scope<'a>(scope: &'a [u8], own: &'a Option<Vec<u8>>) -> &'a [u8]
+/// Returns the path of the scope of a term's children: its own, or that of the scope around the term.
+pub fn inner_scope<'a>(scope: &'a [u8], own: &'a Option<Vec<u8>>) -> &'a [u8]
     ensures { result.now ≡ unwrap_or (option_map (λ path. path.items) own.now) scope.now }
 {
     match own {
@@ -52,8 +52,8 @@ fn inner_scope<'a>(scope: &'a [u8], own: &'a Option<Vec<u8>>) -> &'a [u8]
     }
 }
 
-// Adds a number of arguments for the name of these segments, if they have one.
-fn add_name(
+/// Adds a number of arguments for the name of these segments, from the root or without it, if they have one.
+pub fn add_name(
     alloc: Global,
     from_root: bool,
     segments: &[u8],
@@ -184,8 +184,8 @@ fn push_object(
     push_at(alloc, path, name, args, all)
 }
 
-// Returns the name that is a segment alone, if these bytes are one.
-pub(crate) fn as_segment(alloc: Global, bytes: &[u8]) -> Result<Option<NameString>, AllocError>
+/// Returns the name that is a segment alone, if these bytes are one.
+pub fn as_segment(alloc: Global, bytes: &[u8]) -> Result<Option<NameString>, AllocError>
     ensures { IfOk result (λ name. name ≡ as_segment bytes.now) }
 {
     match bytes {
@@ -253,8 +253,8 @@ fn push_external(
     }
 }
 
-// Returns the place of the operand that names the object which an operator makes.
-fn made_by(op: Op) -> Option<usize>
+/// Returns the place of the operand that names the object which an operator makes.
+pub fn made_by(op: Op) -> Option<usize>
     ensures { result ≡ made_by op }
 {
     match op {
@@ -279,8 +279,8 @@ fn alone(term: &Term) -> Option<&NameString>
     }
 }
 
-// Returns the name that stands alone at a place of two lists.
-fn name_at<'a>(place: usize, first: &'a [Term], others: &'a [Term]) -> Option<&'a NameString>
+/// Returns the name that stands alone at a place of two lists.
+pub fn name_at<'a>(place: usize, first: &'a [Term], others: &'a [Term]) -> Option<&'a NameString>
     ensures { option_map (λ name. name.now) result ≡ name_at place (views (first.now ++ others.now)) }
 {
     if place < first.len() {
@@ -431,8 +431,8 @@ pub(crate) fn push_copies(
 
 // ---- the objects whose number of arguments matters
 
-// Returns an empty list of numbers.
-fn no_numbers(alloc: Global) -> Result<Arities, AllocError>
+/// Returns an empty list of numbers.
+pub fn no_numbers(alloc: Global) -> Result<Arities, AllocError>
     ensures { IfOk result (λ all. all ≡ []) }
 {
     match Arities::new(Vec::new(alloc)) {
@@ -637,8 +637,21 @@ pub(crate) fn add_predefined(alloc: Global, all: &mut Arities) -> Result<(), All
     add_calls(alloc, b"_OSI", 1, all)
 }
 
+// Returns the stated numbers and that of the operating system.
+pub(crate) fn first_numbers(alloc: Global, stated: &Arities) -> Result<Arities, AllocError>
+    ensures { IfOk result (λ all. all ≡ first_numbers stated.now) }
+{
+    let mut all = stated.copy(alloc)?;
+    add_predefined(alloc, &mut all)?;
+    Ok(all)
+}
+
 // Returns the stated numbers, those of objects, and that of the operating system.
-fn own_numbers(alloc: Global, stated: &Arities, objects: &[Object]) -> Result<Arities, AllocError>
+pub(crate) fn own_numbers(
+    alloc: Global,
+    stated: &Arities,
+    objects: &[Object],
+) -> Result<Arities, AllocError>
     ensures { IfOk result (λ all. all ≡ own_numbers stated.now (map callee_by objects.now)) }
 {
     let mut all = stated.copy(alloc)?;
@@ -648,7 +661,7 @@ fn own_numbers(alloc: Global, stated: &Arities, objects: &[Object]) -> Result<Ar
 }
 
 /// Adds the objects of a further definition block, by which it and others have the same namespace (ACPI 6.5, 5.3). `bytes` are
-/// its terms, without the header. The objects are those of the terms that can be read with the stated numbers.
+/// its terms, without the header. The objects are those of the terms that can be read with the stated numbers and that of `_OSI`.
 pub fn add_objects_in(
     alloc: Global,
     bytes: &[u8],
@@ -657,7 +670,8 @@ pub fn add_objects_in(
 ) -> Result<(), AllocError>
     ensures { OnOk result (AddObjectsIn stated.now bytes.now (map callee_by all.old.items) (map callee_by all.new.items)) }
 {
-    let terms = terms_in_part(bytes, stated)?;
+    let first = first_numbers(alloc, stated)?;
+    let terms = terms_in_part(bytes, &first)?;
     push_terms(alloc, Kept::All, &[], &terms, all)?;
     Ok(())
 }
@@ -667,7 +681,7 @@ pub fn add_objects_in(
 /// 5.7.2). `bytes` are its terms, without the header. A method adds its path from the root, and the path without the root from
 /// each of its segments on, as calls may name it. So does another object whose name ends as that of a method with arguments; its
 /// number is 0. A name that is stated keeps its number, and a name of several objects has the least of their numbers. The block's
-/// objects are those of the terms that can be read with the stated numbers.
+/// objects are those of the terms that can be read with the stated numbers and that of `_OSI`.
 pub fn own_arities(
     alloc: Global,
     bytes: &[u8],
@@ -677,7 +691,8 @@ pub fn own_arities(
     ensures { IfOk result (λ all. AreOwn stated.now (map callee_by further.now) bytes.now all) }
 {
     let objects = {
-        let terms = terms_in_part(bytes, stated)?;
+        let first = first_numbers(alloc, stated)?;
+        let terms = terms_in_part(bytes, &first)?;
         all_callees(alloc, &terms, further)?
     };
     own_numbers(alloc, stated, &objects)

@@ -10,7 +10,7 @@ ghost use Rattle.acpi_terms_text.specs.Objects.{as_segment, callee_by, counted, 
 ghost use Rattle.acpi_terms_text.specs.Path.{parent};
 ghost use Rattle.acpi_terms_text.specs.Scoped.{here, made_in, near, nearest, may_name, any, differ, numbers_in};
 ghost use Rattle.acpi_terms_text.specs.Scoped.{numbers_for};
-ghost use Rattle.acpi_terms_text.specs.Scoped.{AreParents, below, all_below, all_relative, is_relative, may_be_path};
+ghost use Rattle.acpi_terms_text.specs.Scoped.{AreParents, below, all_below, all_relative, is_relative, may_be_path, is_unread};
 ghost use Rattle.acpi_terms_text.specs.Scoped.{sought as sought_in, are_other};
 ghost use Rattle.acpi_terms_text.specs.Scoped.{AreReadAgain, AreKept, IsBody, AreScoped, AreInScopes};
 
@@ -221,11 +221,23 @@ fn may_be_path(own: &Arities, kind: Kind<'_>) -> bool
 
 // What is looked for in terms.
 #[derive(Clone, Copy)]
-enum Sought<'a> {
+pub(crate) enum Sought<'a> {
     // This name.
     Name(&'a [u8]),
     // A name that depends on the scope, and isn't searched. The list has the numbers of names.
     Path(&'a Arities),
+    // Bytes that aren't read.
+    Unread,
+}
+
+// Returns whether a term stands for bytes that aren't read.
+fn is_unread(kind: Kind<'_>) -> bool
+    ensures { result ≡ is_unread (head_of kind.entry) }
+{
+    match kind {
+        Kind::Unread(..) => true,
+        _ => false,
+    }
 }
 
 // Returns whether a term is what is looked for, or has bytes that aren't read.
@@ -235,12 +247,13 @@ fn is_sought(sought: Sought<'_>, kind: Kind<'_>) -> bool
     match sought {
         Sought::Name(name) => may_name(name, kind),
         Sought::Path(own) => may_be_path(own, kind),
+        Sought::Unread => is_unread(kind),
     }
 }
 
 // Returns whether one of these terms, or of those in them, is.
 #[cycle(any)]
-fn any(sought: Sought<'_>, terms: &[Term]) -> bool
+pub(crate) fn any(sought: Sought<'_>, terms: &[Term]) -> bool
     ensures { result ≡ any (sought_in sought.entry) (views terms.now) }
 {
     for term in terms {

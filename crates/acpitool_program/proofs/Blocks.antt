@@ -4,7 +4,7 @@ use Rattle.acpi_term.specs.declared.read_error.ReadError.{ReadError}
 use Rattle.acpi_term.specs.declared.read_error.ReadError.TheVariants.{Memory}
 use Rattle.acpitool_program.specs.Fault.{IsFaultAfter}
 use Rattle.acpitool_program.specs.declared.fault.Fault.{Fault}
-use Rattle.acpi_asl.specs.Block.{AreNoTerms}
+use Rattle.acpi_terms_text.specs.Block.{AreNoTerms}
 use Rattle.acpitool_program.specs.Terms.{report_lines, error_line, IsReport, HasReport, HasError}
 
 pub report_follows : {E : Type 0} (stated : List (List ℕ × ℕ)) (bytes text : List ℕ) → IsReport stated (drop 36 bytes) text

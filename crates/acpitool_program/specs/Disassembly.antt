@@ -1,7 +1,8 @@
 -- What is printed of a definition block: its ASL, or the objects that it makes.
 use Rattle.std.specs.Prelude.{◌≡◌, ◌≢◌, ◌⊎◌, ℕ, true, false, List, ◌∷◌, [], ◌++◌, Option, Some, codes, drop}
 use Rattle.std.specs.Io.KnownBytes.{Keeps, Appends}
-use Rattle.acpi_asl.specs.Block.{has_terms, IsBlockText, IsTextInPart, AreNoTerms}
+use Rattle.acpi_asl.specs.Block.{has_terms, IsBlockText, IsTextInPart}
+use Rattle.acpi_terms_text.specs.Block.{AreNoTerms}
 use Rattle.acpi_asl.specs.declared.block.BlockText.{BlockText}
 use Rattle.acpi_base.specs.Table.{IsTrueTable}
 use Rattle.acpi_terms_text.specs.Objects.{Callee, AddObjectsIn}

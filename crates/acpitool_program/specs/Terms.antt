@@ -2,7 +2,8 @@
 use Rattle.std.specs.Prelude.{◌≡◌, ◌≢◌, ◌⊎◌, ℕ, Bool, true, false, List, [], ◌++◌, drop}
 use Rattle.std.specs.Prelude.{Option, Some, None, codes}
 use Rattle.std.specs.Fmt.{decimal}
-use Rattle.acpi_asl.specs.Block.{has_terms, AreNoTerms}
+use Rattle.acpi_asl.specs.Block.{has_terms}
+use Rattle.acpi_terms_text.specs.Block.{AreNoTerms}
 use Rattle.acpi_term.specs.declared.read_error.ReadError.{ReadError}
 use Rattle.acpi_term.specs.declared.read_error.ReadError.TheVariants.{Memory}
 use Rattle.acpi_terms_text.specs.Comment.{IsAnnotated}

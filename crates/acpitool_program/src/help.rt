@@ -45,6 +45,7 @@ differ, or if the tables have different signatures. A FILE is one table, as for 
 
 disassemble prints a definition block as ASL, the language that compilers take. The first FILE is its table, or -
 for standard input. The block may call the methods of those in further FILEs, as an SSDT calls those of the DSDT.
+The text has an External statement for each name for which the block has no object.
 Terms that can't be read are a comment with their bytes, and a line says why.
 
 names prints the objects that a definition block makes when it is loaded, as a tree: the name of each, what it is,

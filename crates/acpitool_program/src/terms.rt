@@ -5,7 +5,7 @@ ghost use Rattle.acpi_term.specs.ReadError.{offset_of};
 ghost use Rattle.acpi_term.specs.declared.read_error.ReadError.TheVariants.{Memory};
 ghost use Rattle.acpitool_program.specs.Terms.{report_lines, unread_line, error_line, IsReport, HasReport};
 ghost use Rattle.acpitool_program.specs.Terms.{HasError, IsAfter};
-ghost use Rattle.acpi_asl.specs.Block.{AreNoTerms};
+ghost use Rattle.acpi_terms_text.specs.Block.{AreNoTerms};
 
 use crate::fault::Fault;
 use acpi_asl::block::{BODY, has_terms};

@@ -9,12 +9,10 @@ use acpi_base::sdt::Sdt;
 use acpi_build::block::Block;
 use acpi_build::error::BuildError;
 use acpi_read::table::Table;
-use acpi_read::terms::standard_terms;
 use acpi_term::name_string::Arities;
 use acpi_term::read_error::ReadError;
 use acpi_term::term::Term;
-use acpi_terms_text::objects::own_arities;
-use acpi_terms_text::scoped::in_scopes;
+use acpi_terms_text::block::block_terms;
 use std::alloc::Global;
 
 /// The length of a header (ACPI 6.5, 5.2.6).
@@ -42,10 +40,7 @@ pub enum Outcome {
 // Returns the terms of a block. Calls take the numbers of arguments that the block states.
 fn read(alloc: Global, body: &[u8]) -> Result<Vec<Term>, ReadError> {
     let stated = Arities::new(Vec::new(alloc))?;
-    let own = own_arities(alloc, body, &stated, &[])?;
-    let terms = standard_terms(body, &own)?;
-    let terms = in_scopes(alloc, &stated, &[], &own, terms)?;
-    Ok(terms)
+    block_terms(alloc, body, &stated, &[])
 }
 
 // Returns the bytes of terms as objects.

@@ -11,11 +11,14 @@ const CALLER: &[u8] = b"SSDT9\x00\x00\x00\x02hFOOBARCAFEDEAD\x01\x00\x00\x00RVAT
 const OWNER: &[u8] = b"DSDT4\x00\x00\x00\x02VFOOBARCAFEDEAD\x01\x00\x00\x00RVAT\x00\x00\x00\x01\
 \x10\x0f\x5c_SB_\x14\x08GETX\x02\xa4h";
 
-// The text of the block that calls, around the statements of its method.
+// The text of the block that calls, around the External statement for GETX and the statements of its method.
 const BEFORE: &str = "\
 /*= Creator \"RVAT\", 0x01000000 */
 DefinitionBlock (\"\", \"SSDT\", 2, \"FOOBAR\", \"CAFEDEAD\", 0x00000001)
 {
+    /*= Absent */ External (\\_SB.GETX, ";
+
+const BETWEEN: &str = ")
     Method (CALL, 0, NotSerialized)
     {
 ";
@@ -30,6 +33,8 @@ fn further_blocks(rt: HostRuntime) -> Result<(), Fail> {
     write(&rt, "caller", CALLER)?;
     write(&rt, "owner", OWNER)?;
     write(&rt, "table", &TABLE)?;
+    let two = "MethodObj, UnknownObj, {UnknownObj, UnknownObj}";
+    let one = "MethodObj, UnknownObj, {UnknownObj}";
     let alone = "        Return (\\_SB.GETX)\n        One\n        0x02\n";
     let called = "        Return (\\_SB.GETX (One, 0x02))\n";
     let stated = "        Return (\\_SB.GETX (One))\n        0x02\n";
@@ -37,28 +42,28 @@ fn further_blocks(rt: HostRuntime) -> Result<(), Fail> {
         &rt,
         &["disassemble", "caller"],
         0,
-        &[BEFORE, alone, AFTER],
+        &[BEFORE, "UnknownObj", BETWEEN, alone, AFTER],
         &[],
     )?;
     ends(
         &rt,
         &["disassemble", "caller", "owner"],
         0,
-        &[BEFORE, called, AFTER],
+        &[BEFORE, two, BETWEEN, called, AFTER],
         &[],
     )?;
     ends(
         &rt,
         &["disassemble", "caller", "owner", "caller"],
         0,
-        &[BEFORE, called, AFTER],
+        &[BEFORE, two, BETWEEN, called, AFTER],
         &[],
     )?;
     ends(
         &rt,
         &["disassemble", "caller", "owner", "\\_SB_.GETX=1"],
         0,
-        &[BEFORE, stated, AFTER],
+        &[BEFORE, one, BETWEEN, stated, AFTER],
         &[],
     )?;
     ends(
