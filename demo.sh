@@ -1,9 +1,9 @@
 #!/bin/sh
-# A first run. acpi_example writes the tables of a PC, acpiread reads three of them, and acpitool shows each as text, makes one from
-# its text again, and checks the image of all. What they print is compared with the files of tools/demo.
+# A first run. acpi_example writes the tables of a PC, acpiread reads three of them, and acpitool shows each as text, makes one
+# from its text again, and checks the image of all. What they print is compared with the files of tools/demo.
 #
-# `rt try` runs the programs: it compiles them, and proves nothing. It takes less than two minutes on two processors. With `built`,
-# the programs are those that prove.sh or `rt ci` left.
+# `rt try` runs the programs: it compiles them, and proves nothing. It takes less than two minutes on two processors. With
+# `built`, the programs are those that prove.sh or `rt ci` left.
 set -eu
 cd "$(dirname "$0")"
 
@@ -26,8 +26,8 @@ mkdir -p "$files/tables" "$files/texts"
 work=$(mktemp -d)
 trap 'rm -rf "$work"' EXIT
 
-# Runs a program with words. `rt try` also has an interpreter, which can't run a program that reads words or files: here it stops at
-# its first step.
+# Runs a program with words. `rt try` also has an interpreter, which can't run a program that reads words or files: here it stops
+# at its first step.
 run() {
     program=$1
     shift

@@ -1,15 +1,16 @@
 #!/bin/sh
-# Compiles with ACPICA's iasl the ASL that `acpitool disassemble` prints of definition blocks, and compares the terms of what
-# iasl makes with those of the block, byte for byte. It prints a line for each block. With files or folders as arguments, the
-# blocks are the DSDTs and SSDTs among them. Without any they are those of crates/acpitool/data, those that the example writes for
-# both of its machines, and 100 that iasl makes of the calls of calls.py. The programs and what they stand on are proved first. Not a
+# Compiles with ACPICA's iasl the ASL that `acpitool disassemble` prints of definition blocks, and compares the terms of what iasl
+# makes with those of the block, byte for byte. It prints a line for each block. With files or folders as arguments, the blocks
+# are the DSDTs and SSDTs among them. Without any they are those of crates/acpitool/data, those that the example writes for both
+# of its machines, and 100 that iasl makes of the calls of calls.py. The programs and what they stand on are proved first. Not a
 # part of the gate. The status is 1 if iasl refuses a text, if the terms are others, or if there is no block.
 #
 # iasl runs without its optimizations, which shorten names and numbers. The header isn't compared beyond the OEM's revision, since
 # iasl writes itself and its release there. It doesn't know where a block was made with more bytes than needed for a length or a
 # number: such a block is named, and the number of its bytes beside that of iasl's. Some blocks break rules that iasl checks, such
-# as a name that stands twice. These are compiled by force (-f), and what iasl says is printed. A text with External statements for
-# names that find no object (the note `Absent`) is compiled, and once more without them, by force, since they aren't in the block.
+# as a name that stands twice. These are compiled by force (-f), and what iasl says is printed. A text with External statements
+# for names that find no object (the note `Absent`) is compiled, and once more without them, by force, since they aren't in the
+# block.
 #
 # Tried with release 20200925, Debian's package acpica-tools.
 set -eu

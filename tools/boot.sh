@@ -11,8 +11,8 @@
 # if the kernel didn't take the RSDP or a table, found another number of nodes or processors or a processor without a domain,
 # complains about a table, AML or what they describe, or doesn't come so far.
 #
-# ARCHIVE is one of `acpitool cpio`. Linux has to find each of its tables in the initrd, and to install it, or to take it in place of
-# that of the image.
+# ARCHIVE is one of `acpitool cpio`. Linux has to find each of its tables in the initrd, and to install it, or to take it in place
+# of that of the image.
 #
 # Linux doesn't sum an RSDP that acpi_rsdp= names, and on x86 it doesn't read the PPTT: of these, `acpitool image` checks the sums
 # of the RSDP, and only the sum of the PPTT is seen here.

@@ -1,10 +1,11 @@
 #!/bin/sh
 # Builds the library for callers in C and Rust, and programs that call it: `check` in C and in Rust, on the tables and the image
-# of acpi_example, `monitor`, which builds these tables, and `boundary`, which goes to the limits of each function. In C all are built
-# a second time with the address and undefined behaviour sanitizers, and `boundary` is run once for each growth, with that one refused
-# by memory.c. Where Cargo is there, the tests of bindings/rust run, too. The library and the example are proved before they are
-# built, with everything that they stand on. With `built`, they stand on the crates that `rt ci` left. It leaves no static library, so
-# acpi_c itself is proved once more. The library, with its functions in C and its allocator, is then crates/acpi_c/out/c/libhyssop.a.
+# of acpi_example, `monitor`, which builds these tables, and `boundary`, which goes to the limits of each function. In C all are
+# built a second time with the address and undefined behaviour sanitizers, and `boundary` is run once for each growth, with that
+# one refused by memory.c. Where Cargo is there, the tests of bindings/rust run, too. The library and the example are proved
+# before they are built, with everything that they stand on. With `built`, they stand on the crates that `rt ci` left. It leaves
+# no static library, so acpi_c itself is proved once more. The library, with its functions in C and its allocator, is then
+# crates/acpi_c/out/c/libhyssop.a.
 set -eu
 cd "$(dirname "$0")/.."
 
@@ -43,8 +44,8 @@ fi
 source=$PWD/crates/acpi_c
 sed -n 's|^ *HYSSOP_[A-Z_]* = \([0-9]*\),* /\* \(.*\) \*/$|{\1, "\2"},|p' "$source/include/hyssop.h" >"$work/names.h"
 
-# One archive with the functions of the header, and with what the library calls for memory, which the kit has in C: malloc, realloc
-# and free.
+# One archive with the functions of the header, and with what the library calls for memory, which the kit has in C: malloc,
+# realloc and free.
 mkdir -p "$source/out/c" "$work/objects"
 (cd "$work/objects" && ar x "$kit/c/liblibc_c.a")
 cc -std=c99 -pedantic -Wall -Wextra -Werror -O2 -fPIC -I "$source/include" -I "$work" -c -o "$work/objects/hyssop.o" \

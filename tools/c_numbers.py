@@ -5,8 +5,8 @@ tools/c_numbers.py c        prints a program in C that compiles if hyssop.h has 
 tools/c_numbers.py rust     prints one in Rust, for hyssop.rs: its faults, and the sizes of its structs
 tools/c_numbers.py missing  prints each number of hyssop.h that isn't in the list, and then its status is 1
 
-A line of the list is a constant and its number, `sizeof` and a struct and its size in bytes, or `offsetof`, a struct, a field and its
-offset. A number is never given to another name. So a line is only added, or changed together with the version, at the top of
+A line of the list is a constant and its number, `sizeof` and a struct and its size in bytes, or `offsetof`, a struct, a field and
+its offset. A number is never given to another name. So a line is only added, or changed together with the version, at the top of
 hyssop.h."""
 import re
 import sys

@@ -1,8 +1,8 @@
 #!/usr/bin/env python3
 """Writes ASL of methods that call each other, for asl.sh: calls.py FOLDER COUNT. Each file has a namespace of its own, with
 devices, methods and named values that have few names, so that most names are those of several objects. A method is called by each
-kind of name that finds it (ACPI 6.5, 5.3): from the root, after `^`, by several segments, or by one that is searched. The number of
-a file is the seed of its random choices, so a block that fails is written again by the same command."""
+kind of name that finds it (ACPI 6.5, 5.3): from the root, after `^`, by several segments, or by one that is searched. The number
+of a file is the seed of its random choices, so a block that fails is written again by the same command."""
 
 import pathlib
 import random

@@ -1,7 +1,7 @@
-"""Looks for the names that the documents cite: each word of code between backquotes in README.md, docs/*.md and tools/README.md has
-to be in a file of the crates, of tools, of .ci or of cases, or in the name of a file. It prints each that isn't, and then its status is
-1. Words in capitals stand for others, and parts of names begin or end with an underscore: both are passed over. So is the first column
-of a table of docs/GUIDE.md, which has words of ASL."""
+"""Looks for the names that the documents cite: each word of code between backquotes in README.md, docs/*.md and tools/README.md
+has to be in a file of the crates, of tools, of .ci or of cases, or in the name of a file. It prints each that isn't, and then its
+status is 1. Words in capitals stand for others, and parts of names begin or end with an underscore: both are passed over. So is
+the first column of a table of docs/GUIDE.md, which has words of ASL."""
 import glob
 import os
 import re

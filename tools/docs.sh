@@ -1,9 +1,9 @@
 #!/bin/sh
 # Compares the documents with what the gate compiles and compares: the programs of README with the crates test_readme_table and
-# test_readme_image, its samples with the output that the programs are compared with, the fields in docs/FIELDS.md with the output of
-# `acpitool show`, the rules in docs/RULES.md with the source of `acpi_rules`, the declarations for C and Rust with the source of
-# `acpi_c`, and the names that documents cite with those of the sources. It says what differs, and then its status is 1. It proves
-# nothing and needs no built program.
+# test_readme_image, its samples with the output that the programs are compared with, the fields in docs/FIELDS.md with the output
+# of `acpitool show`, the rules in docs/RULES.md with the source of `acpi_rules`, the declarations for C and Rust with the source
+# of `acpi_c`, and the names that documents cite with those of the sources. It says what differs, and then its status is 1. It
+# proves nothing and needs no built program.
 set -eu
 cd "$(dirname "$0")/.."
 

@@ -1,8 +1,8 @@
 #!/bin/sh
-# Tries the edits in tools/edits, each of which makes a body wrong: the prover has to refuse it. Words are names of crates, and none
-# stand for all. `rt ci` would prove a crate once more for its edits. Here the prover is asked for the function that the edit names
-# alone, so a try takes seconds. What the crates stand on is proved before, or with `built` taken from what `rt ci` left. The
-# status is 1 if an edit isn't refused.
+# Tries the edits in tools/edits, each of which makes a body wrong: the prover has to refuse it. Words are names of crates, and
+# none stand for all. `rt ci` would prove a crate once more for its edits. Here the prover is asked for the function that the edit
+# names alone, so a try takes seconds. What the crates stand on is proved before, or with `built` taken from what `rt ci` left.
+# The status is 1 if an edit isn't refused.
 set -eu
 cd "$(dirname "$0")/.."
 

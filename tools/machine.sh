@@ -1,6 +1,6 @@
 #!/bin/sh
-# Makes the tables of a small PC from the texts of tools/machine, lays their image, and boots a Linux from it. The initrd has further
-# tables: an SSDT, and a DSDT in place of that of the image. Not a part of the gate.
+# Makes the tables of a small PC from the texts of tools/machine, lays their image, and boots a Linux from it. The initrd has
+# further tables: an SSDT, and a DSDT in place of that of the image. Not a part of the gate.
 #
 #     VMLINUZ=KERNEL sh tools/machine.sh [ACPITOOL]
 #

@@ -1,6 +1,7 @@
 /* Counts the growths for which a program asks the C library, and refuses the one whose number REFUSED has. At exit two numbers
    are written to the file that GROWTHS names: that of growths, and that of refused ones. A block that is to become smaller is a
-   growth as well, but isn't counted as refused, since it stays as it is. tools/memory.sh and tools/c.sh have a program load this. */
+   growth as well, but isn't counted as refused, since it stays as it is. tools/memory.sh and tools/c.sh have a program load
+   this. */
 #include <errno.h>
 #include <stdint.h>
 #include <stdio.h>

@@ -2,9 +2,9 @@
 # Runs programs once for each growth, with that one refused by memory.c. `test_memory` has to end as ever, since it makes each
 # refused call once more, and has to say that as many calls returned that memory ran out as growths were refused. `acpiread` has
 # to print its whole report, or to end with status 1, `refused: Memory` and no report. `acpitool` has to print a whole text, or to
-# write a whole table, or to end with a line that says that memory ran out, and nothing else. The whole text of a definition block of
-# which not all can be read has a line on standard error, and status 1. All are proved before they are
-# built, with everything that they stand on; with `built`, those are run that `rt ci` left.
+# write a whole table, or to end with a line that says that memory ran out, and nothing else. The whole text of a definition block
+# of which not all can be read has a line on standard error, and status 1. All are proved before they are built, with everything
+# that they stand on; with `built`, those are run that `rt ci` left.
 #
 # A run may go on without these growths, as nothing is missing then, and without no other:
 #

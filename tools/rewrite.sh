@@ -1,8 +1,8 @@
 #!/bin/sh
-# Has test_rewrite write definition blocks anew by the constructors of the library, and of their own ASL, and compare the bytes. With
-# files or folders as arguments, the blocks are the DSDTs and SSDTs among them. Without any they are those of crates/acpitool/data
-# and those that the example writes for both of its machines. The programs and what they stand on are proved first. Not a part of
-# the gate. The status is 1 if the bytes of a block differ, or if there is no block.
+# Has test_rewrite write definition blocks anew by the constructors of the library, and of their own ASL, and compare the bytes.
+# With files or folders as arguments, the blocks are the DSDTs and SSDTs among them. Without any they are those of
+# crates/acpitool/data and those that the example writes for both of its machines. The programs and what they stand on are proved
+# first. Not a part of the gate. The status is 1 if the bytes of a block differ, or if there is no block.
 set -eu
 
 fail() {

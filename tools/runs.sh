@@ -1,9 +1,9 @@
 #!/bin/sh
-# Further runs of the proved programs, which prove.sh makes after those of demo.sh. acpiread reads further tables. acpi_example writes
-# images at the first address and at the last one where there is room. acpitool makes a table of an edited template, and each table
-# of the example of its own text. It writes a table to standard output and into a pipe. All three programs have the tables of an Arm
-# machine. Last, acpiread reads a definition block, and is run on a file that ends early or never, on a wrong word, with little
-# memory, and with output that can't be written. The programs are those that prove.sh or `rt ci` left.
+# Further runs of the proved programs, which prove.sh makes after those of demo.sh. acpiread reads further tables. acpi_example
+# writes images at the first address and at the last one where there is room. acpitool makes a table of an edited template, and
+# each table of the example of its own text. It writes a table to standard output and into a pipe. All three programs have the
+# tables of an Arm machine. Last, acpiread reads a definition block, and is run on a file that ends early or never, on a wrong
+# word, with little memory, and with output that can't be written. The programs are those that prove.sh or `rt ci` left.
 set -eu
 cd "$(dirname "$0")/.."
 
@@ -104,8 +104,8 @@ wait
 cmp "$work/made" "$work/printed"
 [ -p "$work/pipe" ]
 
-# An Arm machine: what acpiread prints for its tables, and its image, which has no FACS. acpiread knows the structures of the tables
-# of the Rust crate alone, and so none of GTDT, DBG2 and IORT.
+# An Arm machine: what acpiread prints for its tables, and its image, which has no FACS. acpiread knows the structures of the
+# tables of the Rust crate alone, and so none of GTDT, DBG2 and IORT.
 mkdir "$work/arm"
 expect "$(crates/acpi_example/out/acpi_example arm "$work/arm" 40000000)" 'base 0x40000000 RSDP 0x40000600'
 arm_reads() {

@@ -1,50 +1,36 @@
 -- The names of a block for which it has no object. A compiler takes them with an External statement (ACPI 6.5, 5.3 and 19.6.44).
-use Rattle.std.specs.Prelude.{◌≡◌, ℕ, zero, suc, ◌/◌, ◌==◌, ◌&&◌, ◌||◌, not, nat_le, min, Bool, true, false, if◌then◌else◌, Option}
+use Rattle.std.specs.Prelude.{◌≡◌, ℕ, zero, suc, ◌/◌, ◌==◌, ◌&&◌, ◌||◌, not, min, Bool, true, false, if◌then◌else◌, Option}
 use Rattle.std.specs.Prelude.{Some, None, List, [], ◌∷◌, ◌++◌, length, codes}
-use Rattle.acpi_term.specs.Arity.{is_stated, with_all}
-use Rattle.acpi_term.specs.PathText.{lead, name_of_segments}
+use Rattle.acpi_term.specs.PathText.{name_of_segments}
 use Rattle.acpi_term.specs.Tree.{Head, def_scope, def_device, def_method, def_power_res, def_field, def_op_region, def_name}
 use Rattle.acpi_term.specs.Tree.{def_mutex, def_acquire, def_release, call, op, def_external, def_leveled_method, def_processor}
 use Rattle.acpi_term.specs.Tree.{def_thermal_zone, def_index_field, def_bank_field, Entry, named, connection, Terms, end, term}
-use Rattle.acpi_term.specs.Tree.{def_if, def_while, def_else, count}
+use Rattle.acpi_term.specs.Tree.{count}
 use Rattle.acpi_term.specs.declared.op.Op.{Op}
 use Rattle.acpi_term.specs.declared.op.Op.TheVariants as ops
-use Rattle.acpi_terms_text.specs.Objects.{counted, inside, made_by, name_at}
+use Rattle.acpi_terms_text.specs.Objects.{inside, made_by, name_at}
 use Rattle.acpi_terms_text.specs.Path.{parent, path_in}
 use Rattle.acpi_asl.specs.Opening.{own}
-use Rattle.acpi_asl.specs.Place.{new_line}
+use Rattle.acpi_asl.specs.Paths.{Wanted, of_path, of_segment, has}
+use Rattle.acpi_asl.specs.Place.{place, next, in_braces, is_statement, new_line}
 use Rattle.acpi_asl.specs.declared.absent.Pass.{Pass}
 use Rattle.acpi_asl.specs.declared.absent.Pass.TheVariants.{Objects, Scopes, Methods, Around, Others}
-use Rattle.acpi_asl.specs.declared.absent.Spot.{Spot}
-use Rattle.acpi_asl.specs.declared.absent.Spot.TheVariants.{Statements, Predicate, Operands}
+use Rattle.acpi_asl.specs.declared.place.Body.TheVariants.{Statements}
+use Rattle.acpi_asl.specs.declared.place.Place.{Place}
 
--- names of objects from the root on; the number of each is 0
+-- paths of objects
 abbrev pub Known : Type 0
-Known = List (List ℕ × ℕ)
-
--- an object of this path
-abbrev pub known : List ℕ → Known
-known path = counted 0 (name_of_segments true path)
+Known = List (List ℕ)
 
 -- ---- names that find an object
 
--- the name of a path from the root, if it has 1 to 255 segments (ACPI 6.5, 20.2.2)
-abbrev pub root_name : List ℕ → List ℕ
-root_name path = 0x5c ∷ (lead (length path / 4) ++ path)
+-- what a name in a scope has to find (ACPI 6.5, 5.3); four bytes are a segment alone
+abbrev pub wanted_in : List ℕ → List ℕ → Wanted
+wanted_in scope name = if length name == 4 then of_segment scope name else of_path (path_in scope name)
 
--- whether there is an object of this path, or no name for it
-abbrev pub has_path : Known → List ℕ → Bool
-has_path all path = if nat_le 1 (length path / 4) && nat_le (length path / 4) 255 then is_stated all (root_name path) else true
-
--- whether a segment finds an object in a scope, or in one of so many scopes around it
-abbrev pub finds : ℕ → Known → List ℕ → List ℕ → Bool
-finds zero all scope segment = has_path all (scope ++ segment)
-finds (suc levels) all scope segment = has_path all (scope ++ segment) || finds levels all (parent scope) segment
-
--- whether a name in a scope finds an object (ACPI 6.5, 5.3); four bytes are a segment alone
+-- whether it finds an object
 abbrev pub is_found : Known → List ℕ → List ℕ → Bool
-is_found all scope name =
-    if length name == 4 then finds (length scope / 4) all scope name else has_path all (path_in scope name)
+is_found all scope name = has all (wanted_in scope name)
 
 -- the path of an object for a name that finds none: a segment alone finds it in the root
 abbrev pub absent : List ℕ → List ℕ → List ℕ
@@ -109,40 +95,19 @@ abbrev pub scope_items : List ℕ → Head → List Item
 scope_items scope (def_scope name) = used scope name 6 0 ∷ []
 scope_items scope _ = []
 
--- where the children of a head stand
-abbrev pub spot_in : Head → Spot
-spot_in (def_scope name) = Statements
-spot_in (def_device name) = Statements
-spot_in (def_method name args serialized) = Statements
-spot_in (def_leveled_method name args serialized level) = Statements
-spot_in (def_power_res name level order) = Statements
-spot_in (def_processor name id address size) = Statements
-spot_in (def_thermal_zone name) = Statements
-spot_in def_else = Statements
-spot_in def_if = Predicate
-spot_in def_while = Predicate
-spot_in _ = Operands
+-- the place after terms
+abbrev pub left_after : Place → Terms → Place
+left_after at end = at
+left_after at (term h w children others) = left_after (next at false) others
 
--- where the term after one stands, and that after several
-abbrev pub next : Spot → Spot
-next Statements = Statements
-next Predicate = Statements
-next Operands = Operands
-
-abbrev pub spot_after : Spot → Terms → Spot
-spot_after s end = s
-spot_after s (term h w children others) = spot_after (next s) others
-
--- whether a name with this many arguments is a call: as a statement it is one without arguments, too
-abbrev pub is_call : Spot → ℕ → Bool
-is_call Statements n = true
-is_call Predicate n = not (n == 0)
-is_call Operands n = not (n == 0)
+-- whether a name with this many arguments in a place is a call: as a statement it is one without arguments, too
+abbrev pub is_call : Place → ℕ → Bool
+is_call at n = is_statement at || not (n == 0)
 
 -- the methods that a head with this many children calls
-abbrev pub method_items : Spot → List ℕ → Head → ℕ → List Item
-method_items s scope (call name) n = if is_call s n then used scope name 8 (min n 7) ∷ [] else []
-method_items s scope _ n = []
+abbrev pub method_items : Place → List ℕ → Head → ℕ → List Item
+method_items at scope (call name) n = if is_call at n then used scope name 8 (min n 7) ∷ [] else []
+method_items at scope _ n = []
 
 -- the connections that the entries of a field name
 abbrev pub connection_items : List ℕ → List Entry → List Item
@@ -162,18 +127,23 @@ other_items scope (def_acquire name timeout) = used scope name 0 0 ∷ []
 other_items scope (def_release name) = used scope name 0 0 ∷ []
 other_items scope _ = []
 
-abbrev pub own_items : Pass → Spot → List ℕ → Head → Terms → List Item
-own_items Objects s scope h children = made_items scope h children
-own_items Scopes s scope h children = scope_items scope h
-own_items Methods s scope h children = method_items s scope h (count children)
-own_items Around s scope h children = around_items scope h
-own_items Others s scope h children = other_items scope h
+abbrev pub own_items : Pass → Place → List ℕ → Head → Terms → List Item
+own_items Objects at scope h children = made_items scope h children
+own_items Scopes at scope h children = scope_items scope h
+own_items Methods at scope h children = method_items at scope h (count children)
+own_items Around at scope h children = around_items scope h
+own_items Others at scope h children = other_items scope h
 
 -- those of terms in a scope, of which the first stands in this place
-abbrev pub items : Pass → Spot → List ℕ → Terms → List Item
-items p s scope end = []
-items p s scope (term h w children others) =
-    own_items p s scope h children ++ (items p (spot_in h) (inside scope h) children ++ items p (next s) scope others)
+abbrev pub items : Pass → Place → List ℕ → Terms → List Item
+items p at scope end = []
+items p at scope (term h w children others) =
+    own_items p at scope h children
+    ++ (items p (place h (count children)) (inside scope h) children ++ items p (next at false) scope others)
+
+-- those of the terms of a block
+abbrev pub all_items : Pass → Terms → List Item
+all_items p ts = items p (in_braces Statements) [] ts
 
 -- whether a head names an object that something else makes
 abbrev pub uses_name : Head → Bool
@@ -196,8 +166,8 @@ absent_line kind args (Some name) =
 
 -- the known names after an item
 abbrev pub known_by : Known → Item → Known
-known_by all (made path) = with_all all (known path)
-known_by all (used scope name kind args) = if is_found all scope name then all else with_all all (known (absent scope name))
+known_by all (made path) = all ++ path ∷ []
+known_by all (used scope name kind args) = if is_found all scope name then all else all ++ absent scope name ∷ []
 
 -- the statement for an item
 abbrev pub line : Known → Item → List ℕ
@@ -218,21 +188,37 @@ pub record AreAdded (is : List Item) (old new : Known) (before after : List ℕ)
   pub known : new ≡ known_after old is
   pub text : after ≡ before ++ lines old is
 
--- the objects that the operating system makes (ACPI 6.5, 5.3.1 and 5.7)
-abbrev pub predefined : List Item
-predefined =
-    made (codes "_GPE") ∷ made (codes "_PR_") ∷ made (codes "_SB_") ∷ made (codes "_SI_") ∷ made (codes "_TZ_")
+-- the root, and the objects that the operating system makes (ACPI 6.5, 5.3.1 and 5.7)
+abbrev pub first_objects : List Item
+first_objects =
+    made [] ∷ made (codes "_GPE") ∷ made (codes "_PR_") ∷ made (codes "_SB_") ∷ made (codes "_SI_") ∷ made (codes "_TZ_")
     ∷ made (codes "_GL_") ∷ made (codes "_OS_") ∷ made (codes "_OSI") ∷ made (codes "_REV") ∷ []
 
 -- All objects of a block first, and then what it uses: the scopes, which have to be devices, the methods, and the others, which
 -- may be scopes around an object of another block.
 abbrev pub block_items : Terms → List Item
 block_items ts =
-    predefined
-    ++ (items Objects Statements [] ts
-    ++ (items Scopes Statements [] ts
-    ++ (items Methods Statements [] ts ++ (items Around Statements [] ts ++ items Others Statements [] ts))))
+    first_objects
+    ++ (all_items Objects ts
+    ++ (all_items Scopes ts ++ (all_items Methods ts ++ (all_items Around ts ++ all_items Others ts))))
 
 -- the External statements for the names of a block for which it has no object
 unfoldable pub absent_text : Terms → List ℕ
 absent_text ts = lines [] (block_items ts)
+
+-- ---- names that all find an object
+
+abbrev pub are_found : Known → List Item → Bool
+are_found all [] = true
+are_found all (made path ∷ is) = are_found all is
+are_found all (used scope name kind args ∷ is) = is_found all scope name && are_found all is
+
+-- whether those that a head uses do
+abbrev pub own_found : Known → List ℕ → Head → Bool
+own_found all scope h = are_found all (scope_items scope h) && are_found all (other_items scope h)
+
+-- Whether those that terms in a scope use do. Then there are no External statements (`found_silent`).
+abbrev pub all_found : Known → List ℕ → Terms → Bool
+all_found all scope end = true
+all_found all scope (term h w children others) =
+    own_found all scope h && (all_found all (inside scope h) children && all_found all scope others)

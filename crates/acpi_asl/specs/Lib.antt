@@ -12,6 +12,7 @@ pub mod Connection
 pub mod Row
 pub mod Unread
 pub mod Special
+pub mod Paths
 pub mod Absent
 pub mod Asl
 pub mod Namespace

@@ -100,8 +100,8 @@ abbrev pub has_uuids : Head → Bool
 has_uuids (op op.LEqual) = true
 has_uuids _ = false
 
--- The number of the tags in the resource template that is the value of a name. The tags of a template are names of the scope around
--- it, so other names of a scope should have other numbers: that of this segment is one of 471,240.
+-- The number of the tags in the resource template that is the value of a name with this last segment. The tags of a template are
+-- names of the scope around it, so other names of a scope should have other numbers. A tag shows the number modulo 4,096.
 abbrev pub tags_by : List ℕ → ℕ
 tags_by (a ∷ b ∷ c ∷ d ∷ []) = 1021 * a + 509 * b + 251 * c + 67 * d
 tags_by _ = 0

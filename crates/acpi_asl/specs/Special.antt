@@ -8,6 +8,7 @@ use Rattle.acpi_asl.specs.Opening.{opening}
 use Rattle.acpi_asl.specs.Place.{is_left_out, is_null, new_line}
 use Rattle.acpi_asl.specs.Template.{is_template, template_text}
 use Rattle.acpi_asl.specs.Unread.{unread_text}
+use Rattle.acpi_terms_text.specs.Scoped.{is_unread}
 use Rattle.acpi_terms_text.specs.Uuid.{uuid_text}
 
 -- ---- externals
@@ -83,11 +84,6 @@ to_uuid bytes = codes "ToUUID (\"" ++ uuid_text bytes ++ codes "\")"
 abbrev pub is_id_number : Place → Head → ℕ → Bool
 is_id_number p (number v) w = p.ids && is_eisa w v
 is_id_number p _ w = false
-
--- whether a head is bytes that can't be read
-abbrev pub is_unread : Head → Bool
-is_unread (unread error bytes) = true
-is_unread _ = false
 
 -- whether a term in a place is special
 abbrev pub is_special : Place → Head → ℕ → Terms → Bool

@@ -21,8 +21,8 @@ use Rattle.acpi_asl.specs.Word.{word_in}
 abbrev pub tag_text : ℕ → List ℕ
 tag_text n = 0x59 ∷ upper_digit (n / 256 % 16) ∷ upper_digit (n / 16 % 16) ∷ upper_digit (n % 16) ∷ []
 
--- The text of an argument; n is the number of a tag. A compiler accepts a range that is zero, which is set when the code runs, only
--- if its descriptor has a tag.
+-- The text of an argument; n is the number of a tag. A compiler accepts a range that is zero, which is set when the code runs,
+-- only if its descriptor has a tag.
 abbrev pub part_text : List ℕ → ℕ → Part → List ℕ
 part_text item n (parts.Word x kind) = word_in (words kind) (value_of item x)
 part_text item n (parts.Number offset w) = codes "0x" ++ digits_at w offset item

@@ -1,22 +1,24 @@
 //! External statements for the names of a block for which it has no object (ACPI 6.5, 5.3 and 19.6.44).
 
-ghost use Rattle.std.specs.Prelude.{◌≡◌, ◌+◌, ◌/◌, ◌≤◌, ◌++◌, length, [], ◌∷◌, true, Some, map, IfOk, OnOk, string_bytes};
+ghost use Rattle.std.specs.Prelude.{◌≡◌, ◌+◌, ◌/◌, ◌++◌, length, [], ◌∷◌, true, Some, map, IfOk, OnOk, string_bytes};
 ghost use Rattle.acpi_term.specs.PathText.{name_of_segments};
 ghost use Rattle.acpi_term.specs.View.{entry_view, head_of, view, views, single};
 ghost use Rattle.acpi_terms_text.specs.Path.{path_in};
 ghost use Rattle.acpi_terms_text.specs.Scoped.{any};
-ghost use Rattle.acpi_asl.specs.Absent.{root_name, has_path, finds, is_found, absent, made, used, named_by, made_operand};
-ghost use Rattle.acpi_asl.specs.Absent.{made_units, made_items, made_around, around_items, scope_items, method_items, connection_items, other_items};
-ghost use Rattle.acpi_asl.specs.Absent.{own_items, items, uses_name, absent_line, known_by, known_after, AreAdded, predefined};
-ghost use Rattle.acpi_asl.specs.Absent.{spot_in, spot_after, next, is_call, absent_text};
+ghost use Rattle.acpi_asl.specs.Absent.{is_found, absent, made, used, named_by, made_operand};
+ghost use Rattle.acpi_asl.specs.Absent.{made_units, made_items, made_around, around_items, scope_items, is_call};
+ghost use Rattle.acpi_asl.specs.Absent.{method_items, connection_items, other_items, own_items, items, all_items, left_after};
+ghost use Rattle.acpi_asl.specs.Absent.{uses_name, absent_line, known_by, known_after, AreAdded, first_objects};
+ghost use Rattle.acpi_asl.specs.Absent.{are_found, own_found, all_found, absent_text};
 
 use crate::opening::push_own;
-use crate::place::push_line;
+use crate::paths::{Paths, Wanted};
+use crate::place::{Place, STATEMENTS, is_statement, next, place_of, push_line};
 use acpi_term::apart::{Kind, parts_of};
-use acpi_term::name_string::{Arities, NameString};
+use acpi_term::name_string::NameString;
 use acpi_term::op::Op;
 use acpi_term::term::{Term, TermEntry};
-use acpi_terms_text::objects::{add_name, inner_scope, inside, made_by, name_at, no_numbers};
+use acpi_terms_text::objects::{inner_scope, inside, made_by, name_at};
 use acpi_terms_text::path::{joined, parent, path_in};
 use std::alloc::{AllocError, Global};
 
@@ -35,68 +37,12 @@ enum Pass {
     Others,
 }
 
-// Where a term stands.
-#[derive(Clone, Copy)]
-enum Spot {
-    // Among statements.
-    Statements,
-    // Before them, as the predicate of an If or a While.
-    Predicate,
-    // Among operands or elements.
-    Operands,
-}
-
 // ---- names that find an object
-
-// Returns the name from the root of a path of 1 to 255 segments, which is given in two parts. Segments aren't checked: no object
-// has a path of others.
-fn root_name(alloc: Global, front: &[u8], rest: &[u8]) -> Result<Vec<u8>, AllocError>
-    requires { (length front.now + length rest.now) / 4 ≤ 255 }
-    ensures { IfOk result (λ name. name.items ≡ root_name (front.now ++ rest.now)) }
-{
-    let len = front.len() + rest.len();
-    let mut name = Vec::with_capacity(alloc, 3 + len)?;
-    name.push(0x5c)?;
-    match (len / 4) as u8 {
-        1 => {}
-        2 => name.push(0x2e)?,
-        count => name.extend_from_slice(&[0x2f, count])?,
-    }
-    name.extend_from_slice(front)?;
-    name.extend_from_slice(rest)?;
-    Ok(name)
-}
-
-// Returns whether there is an object of this path, which is given in two parts, or no name for it.
-fn has_path(alloc: Global, known: &Arities, front: &[u8], rest: &[u8]) -> Result<bool, AllocError>
-    ensures { IfOk result (λ has. has ≡ has_path known.now (front.now ++ rest.now)) }
-{
-    let count = (front.len() + rest.len()) / 4;
-    if count == 0 || count > 255 {
-        return Ok(true);
-    }
-    let name = root_name(alloc, front, rest)?;
-    Ok(known.states(&name))
-}
-
-// Returns whether a segment finds an object in a scope, or in one around it.
-fn finds(alloc: Global, known: &Arities, scope: &[u8], segment: &[u8]) -> Result<bool, AllocError>
-    ensures { IfOk result (λ found. found ≡ finds (length scope.now / 4) known.now scope.now segment.now) }
-{
-    let mut around = scope;
-    'scopes: while around.len() >= 4 {
-        if has_path(alloc, known, around, segment)? {
-            return Ok(true);
-        }
-        around = parent(around);
-    }
-    Ok(has_path(alloc, known, around, segment)?)
-}
 
 // Returns whether a name in a scope finds an object.
 fn is_found(
     alloc: Global,
-    known: &Arities,
+    known: &Paths,
     scope: &[u8],
     name: &NameString,
 ) -> Result<bool, AllocError>
@@ -104,10 +50,10 @@ fn is_found(
 {
     let bytes = name.as_bytes();
     if bytes.len() == 4 {
-        return finds(alloc, known, scope, bytes);
+        return Ok(known.has(Wanted::Segment(scope, bytes)));
     }
     let path = path_in(alloc, scope, name)?;
-    has_path(alloc, known, &path, &[])
+    Ok(known.has(Wanted::Path(&path)))
 }
 
 // Returns the path of an object for a name that finds none.
@@ -123,24 +69,17 @@ fn absent(alloc: Global, scope: &[u8], name: &NameString) -> Result<Vec<u8>, All
 
 // ---- objects
 
-// Makes a path known.
-fn make(alloc: Global, path: &[u8], known: &mut Arities) -> Result<(), AllocError>
-    ensures { OnOk result (known.new ≡ known_by known.old (made path.now)) }
-{
-    add_name(alloc, true, path, 0, known)
-}
-
 // Makes the path of a name known.
 fn make_named(
     alloc: Global,
     scope: &[u8],
     name: &NameString,
-    known: &mut Arities,
+    known: &mut Paths,
 ) -> Result<(), AllocError>
     ensures { OnOk result (known.new ≡ known_by known.old (made (path_in scope.now name.now))) }
 {
     let path = path_in(alloc, scope, name)?;
-    make(alloc, &path, known)
+    known.add(alloc, path)
 }
 
 // Makes that of an entry of a field known.
@@ -148,14 +87,14 @@ fn make_unit(
     alloc: Global,
     scope: &[u8],
     entry: &TermEntry,
-    known: &mut Arities,
+    known: &mut Paths,
 ) -> Result<(), AllocError>
     ensures { OnOk result (known.new ≡ known_after known.old (made_units scope.now (entry_view entry.now ∷ []))) }
 {
     match entry {
         TermEntry::Named(segment, ..) => {
             let path = joined(alloc, scope, segment)?;
-            make(alloc, &path, known)
+            known.add(alloc, path)
         }
         _ => Ok(()),
     }
@@ -166,7 +105,7 @@ fn make_units(
     alloc: Global,
     scope: &[u8],
     entries: &[TermEntry],
-    known: &mut Arities,
+    known: &mut Paths,
 ) -> Result<(), AllocError>
     ensures { OnOk result (known.new ≡ known_after known.old (made_units scope.now (map entry_view entries.now))) }
 {
@@ -193,7 +132,7 @@ fn make_operand(
     op: Op,
     first: &[Term],
     others: &[Term],
-    known: &mut Arities,
+    known: &mut Paths,
 ) -> Result<(), AllocError>
     ensures { OnOk result (known.new ≡ known_after known.old
         (made_operand scope.now (named_by op) (views (first.now ++ others.now)))) }
@@ -214,7 +153,7 @@ fn make_own(
     kind: Kind<'_>,
     first: &[Term],
     others: &[Term],
-    known: &mut Arities,
+    known: &mut Paths,
 ) -> Result<(), AllocError>
     ensures { OnOk result (known.new ≡ known_after known.old
         (made_items scope.now (head_of kind.entry) (views (first.now ++ others.now)))) }
@@ -238,8 +177,16 @@ fn make_own(
     }
 }
 
+// Makes a path known.
+fn make(alloc: Global, path: &[u8], known: &mut Paths) -> Result<(), AllocError>
+    ensures { OnOk result (known.new ≡ known_by known.old (made path.now)) }
+{
+    let path = Vec::from_slice(alloc, path)?;
+    known.add(alloc, path)
+}
+
 // Makes the scopes around a path known.
-fn make_around(alloc: Global, path: &[u8], known: &mut Arities) -> Result<(), AllocError>
+fn make_around(alloc: Global, path: &[u8], known: &mut Paths) -> Result<(), AllocError>
     ensures { OnOk result (known.new ≡ known_after known.old (made_around (length path.now / 4) path.now)) }
 {
     let mut around = path;
@@ -255,7 +202,7 @@ fn make_external(
     alloc: Global,
     scope: &[u8],
     kind: Kind<'_>,
-    known: &mut Arities,
+    known: &mut Paths,
 ) -> Result<(), AllocError>
     ensures { OnOk result (known.new ≡ known_after known.old (around_items scope.now (head_of kind.entry))) }
 {
@@ -283,23 +230,21 @@ fn push_line_of(name: &NameString, kind: u8, args: u8, text: &mut String) -> Res
 // Adds the External statement of an object that is absent, and makes it known.
 fn push_absent(
     alloc: Global,
-    path: &[u8],
+    path: Vec<u8>,
     kind: u8,
     args: u8,
-    known: &mut Arities,
+    known: &mut Paths,
     text: &mut String,
 ) -> Result<(), AllocError>
-    ensures known { OnOk result (known.new ≡ known_by known.old (made path.now)) }
+    ensures known { OnOk result (known.new ≡ known_by known.old (made path.items)) }
     ensures text { OnOk result (string_bytes text.new ≡ string_bytes text.old
-        ++ absent_line kind args (name_of_segments true path.now)) }
+        ++ absent_line kind args (name_of_segments true path.items)) }
 {
-    match NameString::of_segments(alloc, true, path)? {
-        Some(name) => {
-            push_line_of(&name, kind, args, text)?;
-            known.add(name, 0)
-        }
-        None => Ok(()),
+    match NameString::of_segments(alloc, true, &path)? {
+        Some(name) => push_line_of(&name, kind, args, text)?,
+        None => {}
     }
+    known.add(alloc, path)
 }
 
 // Adds the External statement for a name, if it finds no object: of this type, with so many arguments. Then the object is known.
@@ -309,7 +254,7 @@ fn push_used(
     name: &NameString,
     kind: u8,
     args: u8,
-    known: &mut Arities,
+    known: &mut Paths,
     text: &mut String,
 ) -> Result<(), AllocError>
     ensures { OnOk result (AreAdded (used scope.now name.now kind args ∷ []) known.old known.new
@@ -319,7 +264,7 @@ fn push_used(
         return Ok(());
     }
     let path = absent(alloc, scope, name)?;
-    push_absent(alloc, &path, kind, args, known, text)
+    push_absent(alloc, path, kind, args, known, text)
 }
 
 // The same for the connection that an entry of a field names.
@@ -327,7 +272,7 @@ fn push_connection(
     alloc: Global,
     scope: &[u8],
     entry: &TermEntry,
-    known: &mut Arities,
+    known: &mut Paths,
     text: &mut String,
 ) -> Result<(), AllocError>
     ensures { OnOk result (AreAdded (connection_items scope.now (entry_view entry.now ∷ [])) known.old known.new
@@ -344,7 +289,7 @@ fn push_connections(
     alloc: Global,
     scope: &[u8],
     entries: &[TermEntry],
-    known: &mut Arities,
+    known: &mut Paths,
     text: &mut String,
 ) -> Result<(), AllocError>
     ensures { OnOk result (AreAdded (connection_items scope.now (map entry_view entries.now)) known.old known.new
@@ -363,7 +308,7 @@ fn push_field(
     scope: &[u8],
     region: &NameString,
     entries: &[TermEntry],
-    known: &mut Arities,
+    known: &mut Paths,
     text: &mut String,
 ) -> Result<(), AllocError>
     ensures { OnOk result (AreAdded (used scope.now region.now 0 0 ∷ connection_items scope.now (map entry_view entries.now))
@@ -382,7 +327,7 @@ fn push_registers(
     first: &NameString,
     second: &NameString,
     entries: &[TermEntry],
-    known: &mut Arities,
+    known: &mut Paths,
     text: &mut String,
 ) -> Result<(), AllocError>
     ensures { OnOk result (AreAdded
@@ -399,7 +344,7 @@ fn push_scope(
     alloc: Global,
     scope: &[u8],
     kind: Kind<'_>,
-    known: &mut Arities,
+    known: &mut Paths,
     text: &mut String,
 ) -> Result<(), AllocError>
     ensures { OnOk result (AreAdded (scope_items scope.now (head_of kind.entry)) known.old known.new
@@ -411,31 +356,28 @@ fn push_scope(
     }
 }
 
-// Returns whether a name with this many arguments is a call: as a statement it is one without arguments, too.
-fn is_call(spot: Spot, count: usize) -> bool
-    ensures { result ≡ is_call spot count }
+// Returns whether a name with this many arguments in a place is a call: as a statement it is one without arguments, too.
+fn is_call(place: Place, count: usize) -> bool
+    ensures { result ≡ is_call place count }
 {
-    match spot {
-        Spot::Statements => true,
-        Spot::Predicate | Spot::Operands => count > 0,
-    }
+    is_statement(place) || count > 0
 }
 
 // The same for the method that a term with this many children calls.
 fn push_method(
     alloc: Global,
-    spot: Spot,
+    place: Place,
     scope: &[u8],
     kind: Kind<'_>,
     count: usize,
-    known: &mut Arities,
+    known: &mut Paths,
     text: &mut String,
 ) -> Result<(), AllocError>
-    ensures { OnOk result (AreAdded (method_items spot scope.now (head_of kind.entry) count) known.old known.new
+    ensures { OnOk result (AreAdded (method_items place scope.now (head_of kind.entry) count) known.old known.new
         (string_bytes text.old) (string_bytes text.new)) }
 {
     match kind {
-        Kind::Call(name) if is_call(spot, count) => {
+        Kind::Call(name) if is_call(place, count) => {
             push_used(alloc, scope, name, 8, count.min(7) as u8, known, text)
         }
         _ => Ok(()),
@@ -447,7 +389,7 @@ fn push_other(
     alloc: Global,
     scope: &[u8],
     kind: Kind<'_>,
-    known: &mut Arities,
+    known: &mut Paths,
     text: &mut String,
 ) -> Result<(), AllocError>
     ensures { OnOk result (AreAdded (other_items scope.now (head_of kind.entry)) known.old known.new
@@ -474,54 +416,26 @@ fn push_other(
 fn push_own_items(
     alloc: Global,
     pass: Pass,
-    spot: Spot,
+    place: Place,
     scope: &[u8],
     kind: Kind<'_>,
     first: &[Term],
     others: &[Term],
-    known: &mut Arities,
+    known: &mut Paths,
     text: &mut String,
 ) -> Result<(), AllocError>
-    ensures { OnOk result (AreAdded (own_items pass spot scope.now (head_of kind.entry) (views (first.now ++ others.now)))
+    ensures { OnOk result (AreAdded (own_items pass place scope.now (head_of kind.entry) (views (first.now ++ others.now)))
         known.old known.new (string_bytes text.old) (string_bytes text.new)) }
 {
     let count = first.len() + others.len();
     match pass {
         Pass::Objects => make_own(alloc, scope, kind, first, others, known)?,
         Pass::Scopes => push_scope(alloc, scope, kind, known, text)?,
-        Pass::Methods => push_method(alloc, spot, scope, kind, count, known, text)?,
+        Pass::Methods => push_method(alloc, place, scope, kind, count, known, text)?,
         Pass::Around => make_external(alloc, scope, kind, known)?,
         Pass::Others => push_other(alloc, scope, kind, known, text)?,
     }
     Ok(())
-}
-
-// Returns where the children of a term stand.
-fn spot_in(kind: Kind<'_>) -> Spot
-    ensures { result ≡ spot_in (head_of kind.entry) }
-{
-    match kind {
-        Kind::Scope(_)
-        | Kind::Device(_)
-        | Kind::Method(..)
-        | Kind::LeveledMethod(..)
-        | Kind::PowerResource(..)
-        | Kind::Processor(..)
-        | Kind::ThermalZone(_)
-        | Kind::Else => Spot::Statements,
-        Kind::If | Kind::While => Spot::Predicate,
-        _ => Spot::Operands,
-    }
-}
-
-// Returns where the term after one stands.
-fn next(spot: Spot) -> Spot
-    ensures { result ≡ next spot }
-{
-    match spot {
-        Spot::Statements | Spot::Predicate => Spot::Statements,
-        Spot::Operands => Spot::Operands,
-    }
 }
 
 // The same of terms in a scope, and of those in them. The first stands in this place. Returns the place after them.
@@ -529,20 +443,20 @@ fn next(spot: Spot) -> Spot
 fn push_items(
     alloc: Global,
     pass: Pass,
-    spot: Spot,
+    place: Place,
     scope: &[u8],
     terms: &[Term],
-    known: &mut Arities,
+    known: &mut Paths,
     text: &mut String,
-) -> Result<Spot, AllocError>
-    ensures added { OnOk result (AreAdded (items pass spot scope.now (views terms.now)) known.old known.new
+) -> Result<Place, AllocError>
+    ensures added { OnOk result (AreAdded (items pass place scope.now (views terms.now)) known.old known.new
         (string_bytes text.old) (string_bytes text.new)) }
-    ensures spot { IfOk result (λ left. left ≡ spot_after spot (views terms.now)) }
+    ensures place { IfOk result (λ left. left ≡ left_after place (views terms.now)) }
 {
-    let mut left = spot;
+    let mut left = place;
     for term in terms {
         push_items_of(alloc, pass, left, scope, term, known, text)?;
-        left = next(left);
+        left = next(left, false);
     }
     Ok(left)
 }
@@ -551,20 +465,20 @@ fn push_items(
 fn push_items_of(
     alloc: Global,
     pass: Pass,
-    spot: Spot,
+    place: Place,
     scope: &[u8],
     term: &Term,
-    known: &mut Arities,
+    known: &mut Paths,
     text: &mut String,
 ) -> Result<(), AllocError>
-    ensures { OnOk result (AreAdded (items pass spot scope.now (single (view term.now))) known.old known.new
+    ensures { OnOk result (AreAdded (items pass place scope.now (single (view term.now))) known.old known.new
         (string_bytes text.old) (string_bytes text.new)) }
 {
     let parts = parts_of(term);
     push_own_items(
         alloc,
         pass,
-        spot,
+        place,
         scope,
         parts.kind,
         parts.first,
@@ -577,10 +491,103 @@ fn push_items_of(
     }
     let own = inside(alloc, scope, parts.kind)?;
     let inner = inner_scope(scope, &own);
-    let first = spot_in(parts.kind);
+    let first = place_of(parts.kind, parts.first.len() + parts.others.len());
     let left = push_items(alloc, pass, first, inner, parts.first, known, text)?;
     push_items(alloc, pass, left, inner, parts.others, known, text)?;
     Ok(())
+}
+
+// ---- names that all find an object
+
+// Returns whether the connection that an entry of a field names finds an object.
+fn is_connection_found(
+    alloc: Global,
+    known: &Paths,
+    scope: &[u8],
+    entry: &TermEntry,
+) -> Result<bool, AllocError>
+    ensures { IfOk result (λ found. found ≡ are_found known.now (connection_items scope.now (entry_view entry.now ∷ []))) }
+{
+    match entry {
+        TermEntry::Connection(name) => is_found(alloc, known, scope, name),
+        _ => Ok(true),
+    }
+}
+
+// Returns the same of all entries of a field, and of its region.
+fn is_field_found(
+    alloc: Global,
+    known: &Paths,
+    scope: &[u8],
+    region: &NameString,
+    entries: &[TermEntry],
+) -> Result<bool, AllocError>
+    ensures { IfOk result (λ found. found ≡ are_found known.now
+        (used scope.now region.now 0 0 ∷ connection_items scope.now (map entry_view entries.now))) }
+{
+    if !is_found(alloc, known, scope, region)? {
+        return Ok(false);
+    }
+    'entries: for entry in entries {
+        if !is_connection_found(alloc, known, scope, entry)? {
+            return Ok(false);
+        }
+    }
+    Ok(true)
+}
+
+// Returns whether the names that a term uses find objects.
+fn own_found(alloc: Global, known: &Paths, scope: &[u8], kind: Kind<'_>) -> Result<bool, AllocError>
+    ensures { IfOk result (λ found. found ≡ own_found known.now scope.now (head_of kind.entry)) }
+{
+    match kind {
+        Kind::Scope(name) | Kind::Call(name) | Kind::Acquire(name, _) | Kind::Release(name) => {
+            is_found(alloc, known, scope, name)
+        }
+        Kind::Field(region, _, _, _, entries) => {
+            is_field_found(alloc, known, scope, region, entries)
+        }
+        Kind::IndexField(first, second, _, _, _, entries)
+        | Kind::BankField(first, second, _, _, _, entries) => {
+            if !is_found(alloc, known, scope, first)? {
+                return Ok(false);
+            }
+            is_field_found(alloc, known, scope, second, entries)
+        }
+        _ => Ok(true),
+    }
+}
+
+// Returns whether those that terms in a scope use do, and those that the terms in them use.
+#[cycle(found)]
+fn are_found(alloc: Global, known: &Paths, scope: &[u8], terms: &[Term]) -> Result<bool, AllocError>
+    ensures { IfOk result (λ found. found ≡ all_found known.now scope.now (views terms.now)) }
+{
+    for term in terms {
+        if !are_found_in(alloc, known, scope, term)? {
+            return Ok(false);
+        }
+    }
+    Ok(true)
+}
+
+#[cycle(found)]
+fn are_found_in(alloc: Global, known: &Paths, scope: &[u8], term: &Term) -> Result<bool, AllocError>
+    ensures { IfOk result (λ found. found ≡ all_found known.now scope.now (single (view term.now))) }
+{
+    let parts = parts_of(term);
+    if !own_found(alloc, known, scope, parts.kind)? {
+        return Ok(false);
+    }
+    if parts.first.is_empty() && parts.others.is_empty() {
+        return Ok(true);
+    }
+    let own = inside(alloc, scope, parts.kind)?;
+    let inner = inner_scope(scope, &own);
+    Ok(
+        are_found(alloc, known, inner, parts.first)?
+            && are_found(alloc, known, inner, parts.others)?,
+    )
 }
 
 // ---- blocks
@@ -628,11 +635,12 @@ fn uses_names(term: &Term) -> bool
     use_names(parts.others)
 }
 
-// Returns the names of the objects that the operating system makes.
-fn known_at_first(alloc: Global) -> Result<Arities, AllocError>
-    ensures { IfOk result (λ known. known ≡ known_after [] predefined) }
+// Returns the paths of the root and of the objects that the operating system makes.
+fn known_at_first(alloc: Global) -> Result<Paths, AllocError>
+    ensures { IfOk result (λ known. known ≡ known_after [] first_objects) }
 {
-    let mut known = no_numbers(alloc)?;
+    let mut known = Paths::new(alloc);
+    make(alloc, &[], &mut known)?;
     make(alloc, b"_GPE", &mut known)?;
     make(alloc, b"_PR_", &mut known)?;
     make(alloc, b"_SB_", &mut known)?;
@@ -650,13 +658,13 @@ fn push_pass(
     alloc: Global,
     pass: Pass,
     terms: &[Term],
-    known: &mut Arities,
+    known: &mut Paths,
     text: &mut String,
 ) -> Result<(), AllocError>
-    ensures { OnOk result (AreAdded (items pass Spot.Statements [] (views terms.now)) known.old known.new
+    ensures { OnOk result (AreAdded (all_items pass (views terms.now)) known.old known.new
         (string_bytes text.old) (string_bytes text.new)) }
 {
-    push_items(alloc, pass, Spot::Statements, &[], terms, known, text)?;
+    push_items(alloc, pass, STATEMENTS, &[], terms, known, text)?;
     Ok(())
 }
 
@@ -669,6 +677,9 @@ pub fn push_absents(alloc: Global, terms: &[Term], text: &mut String) -> Result<
     }
     let mut known = known_at_first(alloc)?;
     push_pass(alloc, Pass::Objects, terms, &mut known, text)?;
+    if are_found(alloc, &known, &[], terms)? {
+        return Ok(());
+    }
     push_pass(alloc, Pass::Scopes, terms, &mut known, text)?;
     push_pass(alloc, Pass::Methods, terms, &mut known, text)?;
     push_pass(alloc, Pass::Around, terms, &mut known, text)?;

@@ -17,8 +17,8 @@ use crate::note::push_note;
 use crate::number::push_string;
 use crate::opening::{push_further_decimal, push_further_hex, push_opening};
 use crate::place::{
-    Body, Place, depth_in, is_left_out, is_statement, next, place_in, push_after, push_before,
-    push_closed, push_opened,
+    Body, Place, STATEMENTS, depth_in, is_left_out, is_statement, next, place_in, push_after,
+    push_before, push_closed, push_opened,
 };
 use crate::row::push_rows;
 use crate::special::{is_block, is_special, push_block_note, push_special};
@@ -26,18 +26,6 @@ use acpi_read::bytes::dword_at;
 use acpi_term::apart::{Kind, Parts, parts_of};
 use acpi_term::term::Term;
 use std::alloc::{AllocError, Global};
-
-/// The terms of a block are statements.
-const STATEMENTS: Place = Place {
-    arguments: 0,
-    led: false,
-    targets: 0,
-    body: Body::Statements,
-    ids: false,
-    uuids: false,
-    tags: 0,
-    externals: false,
-};
 
 // Adds terms, if there are any: most lists have none.
 #[cycle(asl)]

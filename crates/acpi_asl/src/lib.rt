@@ -17,6 +17,7 @@ mod note;
 mod number;
 pub mod objects;
 mod opening;
+mod paths;
 pub mod place;
 mod room;
 mod row;

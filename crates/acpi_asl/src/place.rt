@@ -43,6 +43,18 @@ pub struct Place {
     pub externals: bool,
 }
 
+/// Where the terms of a block stand.
+pub(crate) const STATEMENTS: Place = Place {
+    arguments: 0,
+    led: false,
+    targets: 0,
+    body: Body::Statements,
+    ids: false,
+    uuids: false,
+    tags: 0,
+    externals: false,
+};
+
 /// How many of an operator's last operands are targets (ACPI 6.5, 19.2.5).
 pub fn targets(op: Op) -> usize
     ensures { result ≡ targets op }

@@ -9,8 +9,9 @@ ghost use Rattle.acpi_asl.specs.Place.{is_null, new_line};
 ghost use Rattle.acpi_asl.specs.Special.{is_external, are_external, is_end, after_first, is_zero_first, is_external_block};
 ghost use Rattle.acpi_asl.specs.Special.{block_note, externals_text, is_shortest, has_size};
 ghost use Rattle.acpi_asl.specs.Special.{is_template_buffer, is_uuid, is_id_number};
-ghost use Rattle.acpi_asl.specs.Special.{to_uuid, is_unread, is_special, special_text};
+ghost use Rattle.acpi_asl.specs.Special.{to_uuid, is_special, special_text};
 ghost use Rattle.acpi_asl.specs.Template.{template_text};
+ghost use Rattle.acpi_terms_text.specs.Scoped.{is_unread};
 
 use crate::eisa::{is_eisa, push_eisa};
 use crate::number::least_bytes;

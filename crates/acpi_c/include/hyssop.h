@@ -261,9 +261,10 @@ HYSSOP_RESULT enum hyssop_fault hyssop_names(const void *bytes, size_t bytes_siz
                                              char *out, size_t out_size, size_t *size, uint64_t *place);
 
 /* Writes the ASL of a definition block as hyssop_disassemble, but among the blocks in `further`, which have the same namespace
-   (5.3). They lie one after another, each as long as its length says: calls have the numbers of arguments that they state, too. A
-   block of which not all terms can be read has a text, too, with the others as comments. *unread is then the offset at which a term
-   can't be read, and 0 if all are read. *place is an offset in `bytes`, and with HYSSOP_FAULT_FURTHER_BLOCK one in `further`. */
+   (5.3). They lie one after another, each as long as its length says: calls have the numbers of arguments that they state, too.
+   A block of which not all terms can be read has a text, too, with the others as comments. *unread is then the offset at which a
+   term can't be read, and 0 if all are read. *place is an offset in `bytes`, and with HYSSOP_FAULT_FURTHER_BLOCK one in
+   `further`. */
 HYSSOP_RESULT enum hyssop_fault hyssop_disassemble_among(const void *bytes, size_t bytes_size, const void *further,
                                                          size_t further_size, const char *arities, size_t arities_size,
                                                          char *out, size_t out_size, size_t *size, size_t *unread,
@@ -290,8 +291,8 @@ HYSSOP_RESULT enum hyssop_fault hyssop_image_tables(const void *bytes, size_t by
                                                     struct hyssop_image_table *out, size_t out_count, size_t *count,
                                                     uint64_t *place);
 
-/* Checks the tables in a guest's memory as hyssop_check_image, where this is several ranges that don't overlap. The RSDP is at the
-   address `rsdp`. Each table lies in one range with its whole length. *place is the address of a table. */
+/* Checks the tables in a guest's memory as hyssop_check_image, where this is several ranges that don't overlap. The RSDP is at
+   the address `rsdp`. Each table lies in one range with its whole length. *place is the address of a table. */
 HYSSOP_RESULT enum hyssop_fault hyssop_check_memory(const struct hyssop_range *ranges, size_t ranges_count, uint64_t rsdp,
                                                     uint64_t *place);
 
@@ -300,7 +301,8 @@ HYSSOP_RESULT enum hyssop_fault hyssop_memory_tables(const struct hyssop_range *
                                                      struct hyssop_image_table *out, size_t out_count, size_t *count,
                                                      uint64_t *place);
 
-/* Finds the RSDP in memory (5.2.5.1), at a multiple of 16 bytes. *offset is where it is, and 0 with a fault. It takes no memory. */
+/* Finds the RSDP in memory (5.2.5.1), at a multiple of 16 bytes. *offset is where it is, and 0 with a fault. It takes no
+   memory. */
 HYSSOP_RESULT enum hyssop_fault hyssop_find_rsdp(const void *bytes, size_t bytes_size, size_t *offset);
 
 /* Writes the text of a table, an RSDP, a FACS, a CDAT or an S3PT: a line for each field, by its name. *place is an offset. */

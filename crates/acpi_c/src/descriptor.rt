@@ -88,7 +88,8 @@ pub extern "C" fn hyssop_export_io_range(
     max: u16,
     translation: u16,
 ) -> u32
-    ensures { Writes (adds (piece_of (word_space (io_range min max translation)))) bytes.old state.old bytes.new state.new result }
+    ensures { Writes (adds (piece_of (word_space
+        (io_range min max translation)))) bytes.old state.old bytes.new state.new result }
 {
     io_range(bytes, state, min, max, translation)
 }
@@ -102,7 +103,8 @@ pub extern "C" fn hyssop_export_io_range32(
     max: u32,
     translation: u32,
 ) -> u32
-    ensures { Writes (adds (piece_of (dword_space (io_range min max translation)))) bytes.old state.old bytes.new state.new result }
+    ensures { Writes (adds (piece_of (dword_space
+        (io_range min max translation)))) bytes.old state.old bytes.new state.new result }
 {
     io_range32(bytes, state, min, max, translation)
 }
@@ -167,7 +169,8 @@ pub extern "C" fn hyssop_export_io_range64(
     max: u64,
     translation: u64,
 ) -> u32
-    ensures { Writes (adds (piece_of (qword_space (io_range min max translation)))) bytes.old state.old bytes.new state.new result }
+    ensures { Writes (adds (piece_of (qword_space
+        (io_range min max translation)))) bytes.old state.old bytes.new state.new result }
 {
     io_range64(bytes, state, min, max, translation)
 }

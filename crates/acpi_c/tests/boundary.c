@@ -1,5 +1,5 @@
-/* Calls every function of hyssop.h at its limits. Buffers end where a page ends, and the next page can't be touched, so a byte that
-   is read or written past a buffer ends the program.
+/* Calls every function of hyssop.h at its limits. Buffers end where a page ends, and the next page can't be touched, so a byte
+   that is read or written past a buffer ends the program.
 
    boundary IMAGE BASE RSDP TABLE..
        names, empty input, buffers a byte too small, the image and the tables cut and changed, and random input. The files are
@@ -724,8 +724,8 @@ static void try_image(const uint8_t *image, size_t count, uint64_t base, uint64_
     }
 }
 
-/* The same image in two ranges, cut at each byte: a table that is cut lies in neither. The RSDP may be somewhere else, as firmware
-   puts it below 1 MiB (5.2.5.1). */
+/* The same image in two ranges, cut at each byte: a table that is cut lies in neither. The RSDP may be somewhere else, as
+   firmware puts it below 1 MiB (5.2.5.1). */
 static void try_ranges(const uint8_t *image, size_t count, uint64_t base, uint64_t rsdp) {
     static uint8_t without[MOST];
     static struct hyssop_image_table tables[99];

@@ -1,5 +1,6 @@
 -- Numbers over the fields of bytes.
-use Rattle.std.specs.Prelude.{ℕ, ◌+◌, ◌^◌, ◌==◌, nat_lt, nat_le, ◌&&◌, ◌||◌, Bool, if◌then◌else◌, List, length, Option, Some, None}
+use Rattle.std.specs.Prelude.{ℕ, ◌+◌, ◌^◌, ◌==◌, nat_lt, nat_le, ◌&&◌, ◌||◌, Bool, if◌then◌else◌, List, length, Option, Some}
+use Rattle.std.specs.Prelude.{None}
 use Rattle.acpi_base.specs.Bytes.{le, put}
 use Rattle.acpi_base.specs.Walk.{place_offset, place_width, end_of}
 use Rattle.acpi_base.specs.declared.walk.Place.{Place}

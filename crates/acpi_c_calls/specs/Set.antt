@@ -1,5 +1,6 @@
 -- Fields that a writer sets in a table.
-use Rattle.std.specs.Prelude.{ℕ, ◌+◌, ◌-◌, ◌==◌, nat_le, ◌&&◌, if◌then◌else◌, List, [], length, Option, Some, None, Result, Ok, Err}
+use Rattle.std.specs.Prelude.{ℕ, ◌+◌, ◌-◌, ◌==◌, nat_le, ◌&&◌, if◌then◌else◌, List, [], length, Option, Some, None, Result, Ok}
+use Rattle.std.specs.Prelude.{Err}
 use Rattle.acpi_base.specs.Bytes.{le, put}
 use Rattle.acpi_base.specs.declared.walk.Walk.{Walk}
 use Rattle.acpi_make.specs.Fits.{fits}
@@ -28,7 +29,8 @@ parts_from offset form walk piece = if offset == 0 then form.parts.now else stru
 -- the first field with a name of the structure that begins at an offset, which reaches to the end of what is written
 abbrev pub sought_from : ℕ → List ℕ → TableForm → Option Walk → List ℕ → State → Sought
 sought_from offset name form walk old before =
-    seek_parts name (before.size - offset) (piece_from offset old before) 0 (parts_from offset form walk (piece_from offset old before))
+    seek_parts name (before.size - offset) (piece_from offset old before) 0
+    (parts_from offset form walk (piece_from offset old before))
 
 -- bytes over others, and nothing else
 abbrev pub over : ℕ → List ℕ → List ℕ → State → Written

@@ -3,7 +3,8 @@
 ghost use Rattle.std.specs.Prelude.{◌≡◌, ◌≤◌, ◌+◌, ◌-◌, length, take, drop};
 ghost use Rattle.acpi_base.specs.Bytes.{put, zeros};
 ghost use Rattle.acpi_c_calls.specs.Over.{placed, next_count};
-ghost use Rattle.acpi_c_calls.specs.Add.{in_table, told_place, fresh, pointed, adds_counted, adds_form, adds_structure, adds_fields};
+ghost use Rattle.acpi_c_calls.specs.Add.{in_table, told_place, fresh, pointed, adds_counted, adds_form, adds_structure};
+ghost use Rattle.acpi_c_calls.specs.Add.{adds_fields};
 ghost use Rattle.acpi_c_calls.specs.Add.{ends_structure, ends_by, is_size, is_piece, adds_piece_by, adds_piece};
 ghost use Rattle.acpi_c_calls.specs.Writer.{IsDone, Writes, adds_bytes};
 

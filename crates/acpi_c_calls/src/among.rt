@@ -55,7 +55,8 @@ fn add_block(
     all: &mut Vec<Object>,
 ) -> Result<(), AllocError>
     requires { IsFurther block.now }
-    ensures { OnOk result (AddObjectsIn stated.now (drop 36 block.now) (map callee_by all.old.items) (map callee_by all.new.items)) }
+    ensures { OnOk result (AddObjectsIn stated.now (drop 36 block.now) (map callee_by all.old.items)
+        (map callee_by all.new.items)) }
 {
     let (_, body) = block.split_at(BODY);
     add_objects_in(alloc, body, stated, all)
@@ -109,7 +110,8 @@ fn text_among(
     bytes: &[u8],
 ) -> Result<Among, AllocError>
     requires { 36 ≤ length bytes.now }
-    ensures { IfOk result (λ among. IsTextBy block stated.now (map callee_by further.now) bytes.now among.text.items among.unread) }
+    ensures { IfOk result (λ among. IsTextBy block stated.now
+        (map callee_by further.now) bytes.now among.text.items among.unread) }
 {
     match text_of_block(alloc, block, stated, further, bytes) {
         Ok(text) => Ok(Among {
@@ -171,16 +173,16 @@ fn give_among(
     }
 }
 
-/// Writes the ASL of a definition block to `out`, as `disassemble`, but among the blocks in `further`, which have the same namespace
-/// (ACPI 6.5, 5.3): a name takes the stated number of arguments, or else that of the objects of all blocks. They lie one after
-/// another, each as long as the number at its offset 4 says (5.2.6).
+/// Writes the ASL of a definition block to `out`, as `disassemble`, but among the blocks in `further`, which have the same
+/// namespace (ACPI 6.5, 5.3): a name takes the stated number of arguments, or else that of the objects of all blocks. They lie
+/// one after another, each as long as the number at its offset 4 says (5.2.6).
 ///
-/// A block of which not all terms can be read has a text, too: what can't be read is a comment in it. `unread` is then the offset in
-/// the table at which a term can't be read, and 0 if all are read.
+/// A block of which not all terms can be read has a text, too: what can't be read is a comment in it. `unread` is then the offset
+/// in the table at which a term can't be read, and 0 if all are read.
 ///
-/// Returns 0, or the number of a fault, whose offset in the table is `place`. With `FurtherBlock` it is the offset in `further`, where
-/// no whole definition block begins. If `out` has space for fewer bytes, the fault is `Buffer`, and nothing is written to `out`. With
-/// any other fault `size` and `unread` are 0.
+/// Returns 0, or the number of a fault, whose offset in the table is `place`. With `FurtherBlock` it is the offset in `further`,
+/// where no whole definition block begins. If `out` has space for fewer bytes, the fault is `Buffer`, and nothing is written to
+/// `out`. With any other fault `size` and `unread` are 0.
 pub fn disassemble_among(
     alloc: Global,
     bytes: &[u8],

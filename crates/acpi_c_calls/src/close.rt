@@ -3,7 +3,8 @@
 ghost use Rattle.std.specs.Prelude.{◌≡◌, ◌≤◌, ◌<◌, ◌^◌, ◌+◌, ◌-◌, ◌++◌, length, take, drop};
 ghost use Rattle.acpi_base.specs.Bytes.{put};
 ghost use Rattle.acpi_base.specs.Number.{number};
-ghost use Rattle.acpi_c_calls.specs.Writer.{IsDone, Writes, size_before, tag_after, content_from, closes, closes_at, closes_inside};
+ghost use Rattle.acpi_c_calls.specs.Writer.{IsDone, Writes, size_before, tag_after, content_from, closes, closes_at};
+ghost use Rattle.acpi_c_calls.specs.Writer.{closes_inside};
 
 use crate::fault::Fault;
 use crate::held::{Held, fault_of, hold};

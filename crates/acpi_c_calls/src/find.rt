@@ -17,8 +17,8 @@ fn is_pointer(bytes: &[u8]) -> bool
 }
 
 /// Finds the Root System Description Pointer (ACPI 6.5, 5.2.5.1) in memory: at the first multiple of 16 bytes where its signature
-/// is, and 20 bytes that sum to zero. Returns 0, and `offset` is where it begins. Otherwise the fault is `NoPointer`, and `offset`
-/// is 0. It takes no memory.
+/// is, and 20 bytes that sum to zero. Returns 0, and `offset` is where it begins. Otherwise the fault is `NoPointer`, and
+/// `offset` is 0. It takes no memory.
 pub fn find_rsdp(bytes: &[u8], offset: &mut usize) -> u32
     ensures { Finds bytes.now offset.new result }
 {

@@ -133,9 +133,9 @@ fn found(alloc: Global, bytes: &[u8]) -> Result<Vec<u8>, Refused>
 
 /// Writes the rules of the standard that a table breaks to `out`: a line for each, as `acpitool check` prints them after the name
 /// of a file, and nothing if it breaks none. `size` is the number of their bytes. A table has to be right. An RSDP (ACPI 6.5,
-/// 5.2.5.3), a FACS (5.2.10) and an S3PT (5.2.24), by their signatures, and a CDAT are read with any bytes that they have. Returns
-/// 0, or the number of a fault, whose offset is `place`. If `out` has space for fewer bytes, the fault is `Buffer`, and nothing is
-/// written to `out`. With any other fault `size` is 0.
+/// 5.2.5.3), a FACS (5.2.10) and an S3PT (5.2.24), by their signatures, and a CDAT are read with any bytes that they have.
+/// Returns 0, or the number of a fault, whose offset is `place`. If `out` has space for fewer bytes, the fault is `Buffer`, and
+/// nothing is written to `out`. With any other fault `size` is 0.
 pub fn findings(
     alloc: Global,
     bytes: &[u8],

@@ -48,8 +48,8 @@ pub fn add_structure(bytes: &mut [u8], state: &mut State, kind: u32, offset: &mu
 /// offset of the first, if it has fields for these. `offset` is where the structure begins, or 0 with a fault.
 ///
 /// The fault is `ShortHeader` if the header isn't written, `WantsStructure` if the table has no structures, `WantsWhole` if the
-/// table's own fields aren't written, `Structure` if the bytes aren't as long as their length field or their type says, `Count` if
-/// the number of structures doesn't fit its field, and `Buffer` if there is too little space.
+/// table's own fields aren't written, `Structure` if the bytes aren't as long as their length field or their type says, `Count`
+/// if the number of structures doesn't fit its field, and `Buffer` if there is too little space.
 pub fn add_structure_bytes(
     bytes: &mut [u8],
     state: &mut State,
@@ -89,10 +89,10 @@ pub fn end_structure(bytes: &mut [u8], state: &mut State, offset: usize) -> u32
     end_in(bytes, state, &form, walk, offset)
 }
 
-/// Sets a field to a number: the first with this name of the structure at an offset, or of the table itself at 0. Fields in lists,
-/// and those after the first list, aren't sought. The fault is `ShortHeader` if the header isn't written, `Outside` if nothing is
-/// written at the offset, `WantsFieldOf` if there is no such field, and `WantsNumber` if the number doesn't fit it, or it has more
-/// than 8 bytes.
+/// Sets a field to a number: the first with this name of the structure at an offset, or of the table itself at 0. Fields in
+/// lists, and those after the first list, aren't sought. The fault is `ShortHeader` if the header isn't written, `Outside` if
+/// nothing is written at the offset, `WantsFieldOf` if there is no such field, and `WantsNumber` if the number doesn't fit it, or
+/// it has more than 8 bytes.
 pub fn set_number(
     bytes: &mut [u8],
     state: &mut State,

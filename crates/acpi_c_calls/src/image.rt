@@ -37,8 +37,8 @@ fn checked(alloc: Global, ranges: &[Range<'_>], rsdp: u64) -> Result<(), Refused
 }
 
 /// Checks the tables in memory, as an operating system finds them (ACPI 6.5, 5.2.5 to 5.2.10). The RSDP is at the address `rsdp`.
-/// Each table lies whole in one range, the first that holds its first byte. Returns 0, or the number of a fault, and `place` is the
-/// address of the table where it is.
+/// Each table lies whole in one range, the first that holds its first byte. Returns 0, or the number of a fault, and `place` is
+/// the address of the table where it is.
 pub fn check_memory(alloc: Global, ranges: &[Range<'_>], rsdp: u64, place: &mut u64) -> u32
     ensures { Checks (HasSomeTables (memory_of ranges.now) rsdp) (HasNoTables (memory_of ranges.now) rsdp) result place.new }
 {
@@ -90,10 +90,10 @@ fn found(alloc: Global, ranges: &[Range<'_>], rsdp: u64) -> Result<Vec<ImageTabl
     }
 }
 
-/// Writes the tables in memory to `out`, in the order in which they are found: the RSDP, the XSDT, its entries in order, the FACS if
-/// there is one, and the DSDT. They are checked as by `check_memory`. `size` is how many there are. Returns 0, or the number of a
-/// fault, and `place` is the address of the table where it is. If `out` has space for fewer, the fault is `Buffer`, and nothing is
-/// written to `out`. With any other fault `size` is 0.
+/// Writes the tables in memory to `out`, in the order in which they are found: the RSDP, the XSDT, its entries in order, the FACS
+/// if there is one, and the DSDT. They are checked as by `check_memory`. `size` is how many there are. Returns 0, or the number
+/// of a fault, and `place` is the address of the table where it is. If `out` has space for fewer, the fault is `Buffer`, and
+/// nothing is written to `out`. With any other fault `size` is 0.
 pub fn memory_tables(
     alloc: Global,
     ranges: &[Range<'_>],

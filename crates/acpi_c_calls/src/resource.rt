@@ -199,7 +199,8 @@ pub fn memory_range32(
     max: u32,
     translation: u32,
 ) -> u32
-    ensures { Writes (adds (memory_piece cached (λ cacheable. dword_space (memory_range cacheable read_write min max translation))))
+    ensures { Writes (adds (memory_piece cached (λ cacheable. dword_space
+        (memory_range cacheable read_write min max translation))))
         bytes.old state.old bytes.new state.new result }
 {
     if state.fault != 0 {
@@ -231,7 +232,8 @@ pub fn memory_range64(
     max: u64,
     translation: u64,
 ) -> u32
-    ensures { Writes (adds (memory_piece cached (λ cacheable. qword_space (memory_range cacheable read_write min max translation))))
+    ensures { Writes (adds (memory_piece cached (λ cacheable. qword_space
+        (memory_range cacheable read_write min max translation))))
         bytes.old state.old bytes.new state.new result }
 {
     if state.fault != 0 {
@@ -263,7 +265,8 @@ pub fn memory_range16(
     max: u16,
     translation: u16,
 ) -> u32
-    ensures { Writes (adds (memory_piece cached (λ cacheable. word_space (memory_range cacheable read_write min max translation))))
+    ensures { Writes (adds (memory_piece cached (λ cacheable. word_space
+        (memory_range cacheable read_write min max translation))))
         bytes.old state.old bytes.new state.new result }
 {
     if state.fault != 0 {

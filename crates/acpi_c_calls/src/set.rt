@@ -4,7 +4,8 @@ ghost use Rattle.std.specs.Prelude.{◌≡◌, ◌≤◌, ◌-◌, length};
 ghost use Rattle.acpi_base.specs.Bytes.{le};
 ghost use Rattle.acpi_c_calls.specs.Add.{in_table, piece_from};
 ghost use Rattle.acpi_c_calls.specs.Seek.{IsWithin};
-ghost use Rattle.acpi_c_calls.specs.Set.{parts_from, structure_parts, sought_from, sets_found, sets, sets_bytes_found, sets_bytes};
+ghost use Rattle.acpi_c_calls.specs.Set.{parts_from, structure_parts, sought_from, sets_found, sets, sets_bytes_found};
+ghost use Rattle.acpi_c_calls.specs.Set.{sets_bytes};
 ghost use Rattle.acpi_c_calls.specs.Set.{overwrites, adds_number};
 ghost use Rattle.acpi_c_calls.specs.Writer.{IsDone, Writes, adds_bytes};
 

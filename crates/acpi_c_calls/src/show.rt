@@ -44,8 +44,8 @@ fn shown(alloc: Global, bytes: &[u8]) -> Result<Vec<u8>, Refused>
 
 /// Writes the text of a table to `out`, from which `make` makes the table again. `size` is the number of its bytes. A table has
 /// to be right. An RSDP (ACPI 6.5, 5.2.5.3), a FACS (5.2.10) and an S3PT (5.2.24), by their signatures, and a CDAT are shown with
-/// any bytes that they have. Returns 0, or the number of a fault, whose offset is `place`. If `out` has space for fewer bytes, the
-/// fault is `Buffer`, and nothing is written to `out`. With any other fault `size` is 0.
+/// any bytes that they have. Returns 0, or the number of a fault, whose offset is `place`. If `out` has space for fewer bytes,
+/// the fault is `Buffer`, and nothing is written to `out`. With any other fault `size` is 0.
 pub fn show(alloc: Global, bytes: &[u8], out: &mut [u8], size: &mut usize, place: &mut u64) -> u32
     ensures { Gives (IsText bytes.now) (IsTextRefusal bytes.now) out.old out.new result place.new size.new }
 {

@@ -1,6 +1,7 @@
 -- Names after `^`, and objects by their paths from scopes.
 use Rattle.std.proofs.Common.{◌≡◌, ℕ, zero, suc, ◌/◌, ◌-◌, ◌<◌, ◌==◌, Bool, true, false, cond, eqb, List, [], ◌∷◌, ◌++◌, length, Option, Some, None, refl, sym, ap, subst, ◌∙◌, arith}
-use Rattle.std.specs.Prelude.{◌&&◌, nat_le}
+use Rattle.std.specs.Prelude.{◌&&◌, nat_le, take, drop}
+use Rattle.std.specs.Str.{bytes_eq}
 use Rattle.std.proofs.lemmas.List.{length-take-le}
 use Rattle.std.proofs.lemmas.Bool.{and_parts}
 use Rattle.std.proofs.lemmas.Bool.Decides.{nat_tests}
@@ -113,3 +114,25 @@ module _ (all : List Callee) where
       → with_all now (relative_names n up scope all) ≡ whole → new ≡ whole
   relative_end n up scope now new whole none added before =
       added ∙ sym (ap (λ (k : ℕ). with_all now (relative_names k up scope all)) none) ∙ before
+
+-- ---- paths in two parts
+
+module _ (rest : List ℕ) where
+  -- a path that begins with the first part
+  pub joined_is : (front path : List ℕ) → bytes_eq (take (length front) path) front ≡ true
+      → bytes_eq (drop (length front) path) rest ≡ bytes_eq path (front ++ rest)
+  joined_is [] path same = refl
+  joined_is (a ∷ front) [] same = absurd cc
+  joined_is (a ∷ front) (b ∷ path) same =
+      let both = and_parts (b == a) (bytes_eq (take (length front) path) front) same in
+      joined_is front path both.1 ∙ ap (λ (t : Bool). t && bytes_eq path (front ++ rest)) (sym both.0)
+
+  -- another path
+  pub not_joined : (front path : List ℕ) → bytes_eq (take (length front) path) front ≡ false → false ≡ bytes_eq path (front ++ rest)
+  not_joined [] path other = absurd cc
+  not_joined (a ∷ front) [] other = refl
+  not_joined (a ∷ front) (b ∷ path) other =
+      elim (b == a) as (λ t. (t && bytes_eq (take (length front) path) front) ≡ false → false ≡ (t && bytes_eq path (front ++ rest))) [
+        | true ↦ not_joined front path
+        | false ↦ λ e. refl
+      ] other

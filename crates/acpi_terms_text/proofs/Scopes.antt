@@ -1,15 +1,15 @@
 -- The numbers of arguments in scopes.
-use Rattle.std.proofs.Common.{◌≡◌, ℕ, zero, suc, ◌+◌, ◌-◌, ◌<◌, ◌≤◌, ◌==◌, not, ◌&&◌, ◌||◌, Bool, true, false, List, [], ◌∷◌, ◌++◌, length, map, get_or, drop, subst, refl, sym, ap, ◌∙◌, arith}
+use Rattle.std.proofs.Common.{◌≡◌, ℕ, zero, suc, ◌+◌, ◌-◌, ◌<◌, ◌≤◌, ◌||◌, Bool, true, false, List, [], ◌∷◌, ◌++◌, length, map, get_or, drop, subst, refl, sym, ap, ◌∙◌, arith}
 use Rattle.std.proofs.Math.ListN.{set}
 use Rattle.acpi_read.proofs.Texts.{dropped}
 use Rattle.acpi_term.proofs.Depths.{others_shallow, element_shallow}
 use Rattle.acpi_term.specs.Tree.{Head, Terms, end, term, depth}
 use Rattle.acpi_term.specs.View.{view, views, single, IsApart}
 use Rattle.acpi_term.specs.declared.term.Term.{Term}
-use Rattle.acpi_term.specs.Arity.{arity, with_all}
+use Rattle.acpi_term.specs.Arity.{with_all}
 use Rattle.acpi_terms_text.specs.declared.objects.Object.{Object}
 use Rattle.acpi_terms_text.specs.Objects.{inside, Callee, callee_by}
-use Rattle.acpi_terms_text.specs.Scoped.{here, made_in, near, may_name, any, differ, Body, space, code, other, body, OfBody, AreScoped}
+use Rattle.acpi_terms_text.specs.Scoped.{here, made_in, near, may_name, any, have_name, Body, space, code, other, body, OfBody, AreScoped}
 use Rattle.acpi_terms_text.specs.Path.{parent}
 use Rattle.acpi_terms_text.proofs.Walks.{both_added}
 
@@ -24,12 +24,12 @@ or_joined : (a b c : Bool) → (a || (b || c)) ≡ ((a || b) || c)
 or_joined true b c = refl
 or_joined false b c = refl
 
--- one of two lists has another number
-pub differ_both : (own : Counts) (terms : Terms) (a b : Counts) → differ own terms (a ++ b) ≡ (differ own terms a || differ own terms b)
-differ_both own terms [] b = refl
-differ_both own terms (x ∷ a) b =
-    let one = not (arity own x.0 == x.1) && any (may_name x.0) terms in
-    ap (λ (t : Bool). one || t) (differ_both own terms a b) ∙ or_joined one (differ own terms a) (differ own terms b)
+-- terms have a name of one of two lists
+pub name_of_both : (terms : Terms) (a b : Counts) → have_name terms (a ++ b) ≡ (have_name terms a || have_name terms b)
+name_of_both terms [] b = refl
+name_of_both terms (x ∷ a) b =
+    let one = any (may_name x.0) terms in
+    ap (λ (t : Bool). one || t) (name_of_both terms a b) ∙ or_joined one (have_name terms a) (have_name terms b)
 
 -- ---- terms that have a head
 
@@ -71,12 +71,12 @@ module _ (p : Head → Bool) (t : Term) (h : Head) (w : ℕ) (a b : List Term) (
 -- ---- loops over objects
 
 -- what is said of the objects from i on is what is said of the object i and of those after it
-pub differs_split : (own : Counts) (terms : Terms) (scope : List ℕ) (ms : List Object) (i : ℕ) (m : Object) → i < length ms → m ≡ get_or ms i m
-    → differ own terms (made_in scope (map callee_by (drop i ms)))
-    ≡ (differ own terms (here scope (callee_by m)) || differ own terms (made_in scope (map callee_by (drop (i + 1) ms))))
-differs_split own terms scope ms i m inside is =
-    ap (λ (l : List Object). differ own terms (made_in scope (map callee_by l))) (dropped ms i m inside is)
-    ∙ differ_both own terms (here scope (callee_by m)) (made_in scope (map callee_by (drop (i + 1) ms)))
+pub named_split : (terms : Terms) (scope : List ℕ) (ms : List Object) (i : ℕ) (m : Object) → i < length ms → m ≡ get_or ms i m
+    → have_name terms (made_in scope (map callee_by (drop i ms)))
+    ≡ (have_name terms (here scope (callee_by m)) || have_name terms (made_in scope (map callee_by (drop (i + 1) ms))))
+named_split terms scope ms i m inside is =
+    ap (λ (l : List Object). have_name terms (made_in scope (map callee_by l))) (dropped ms i m inside is)
+    ∙ name_of_both terms (here scope (callee_by m)) (made_in scope (map callee_by (drop (i + 1) ms)))
 
 -- ---- scopes around a scope
 
@@ -92,37 +92,37 @@ module _ (all : List Callee) where
       q ∙ ap (λ (s : List ℕ). with_all one (near (n - 1) s all)) into ∙ ap (λ (l : Counts). with_all l rest) p
       ∙ sym (both_added old (made_in scope all) rest) ∙ ap (with_all old) (sym (near_more n scope some))
 
-  pub differs_first : (own : Counts) (terms : Terms) (n : ℕ) (scope : List ℕ) (found : Bool) → found ≡ differ own terms (made_in scope all) → found ≡ true
-      → found ≡ differ own terms (near n scope all)
-  differs_first own terms zero scope found is holds = is
-  differs_first own terms (suc n) scope found is holds =
-      holds ∙ ap (λ (t : Bool). t || differ own terms (near n (parent scope) all)) (sym holds ∙ is) ∙ sym (differ_both own terms (made_in scope all) (near n (parent scope) all))
+  pub named_first : (terms : Terms) (n : ℕ) (scope : List ℕ) (found : Bool) → found ≡ have_name terms (made_in scope all) → found ≡ true
+      → found ≡ have_name terms (near n scope all)
+  named_first terms zero scope found is holds = is
+  named_first terms (suc n) scope found is holds =
+      holds ∙ ap (λ (t : Bool). t || have_name terms (near n (parent scope) all)) (sym holds ∙ is) ∙ sym (name_of_both terms (made_in scope all) (near n (parent scope) all))
 
-  pub differs_after : (own : Counts) (terms : Terms) (n : ℕ) (scope inner : List ℕ) (first found : Bool) → 0 < n → inner ≡ parent scope
-      → first ≡ differ own terms (made_in scope all) → first ≡ false → found ≡ differ own terms (near (n - 1) inner all)
-      → found ≡ differ own terms (near n scope all)
-  differs_after own terms n scope inner first found some into is fails p =
+  pub named_after : (terms : Terms) (n : ℕ) (scope inner : List ℕ) (first found : Bool) → 0 < n → inner ≡ parent scope
+      → first ≡ have_name terms (made_in scope all) → first ≡ false → found ≡ have_name terms (near (n - 1) inner all)
+      → found ≡ have_name terms (near n scope all)
+  named_after terms n scope inner first found some into is fails p =
       let rest = near (n - 1) (parent scope) all in
-      p ∙ ap (λ (s : List ℕ). differ own terms (near (n - 1) s all)) into ∙ ap (λ (t : Bool). t || differ own terms rest) (sym fails ∙ is)
-      ∙ sym (differ_both own terms (made_in scope all) rest) ∙ ap (differ own terms) (sym (near_more n scope some))
+      p ∙ ap (λ (s : List ℕ). have_name terms (near (n - 1) s all)) into ∙ ap (λ (t : Bool). t || have_name terms rest) (sym fails ∙ is)
+      ∙ sym (name_of_both terms (made_in scope all) rest) ∙ ap (have_name terms) (sym (near_more n scope some))
 
 -- ---- terms in scopes
 
-module _ (stated : Counts) (all : List Callee) (own : Counts) (scope : List ℕ) where
+module _ (stated : Counts) (all differing : List Callee) (own : Counts) (scope : List ℕ) where
   -- so many terms are in a scope, and those after them are as they were
   abbrev pub AreDone : ℕ → List Term → List Term → Type 0
   AreDone zero old now = now ≡ old
   AreDone (suc i) [] [] = Unit {0}
   AreDone (suc i) [] (y ∷ now) = ⊥
   AreDone (suc i) (x ∷ old) [] = ⊥
-  AreDone (suc i) (x ∷ old) (y ∷ now) = AreScoped stated all own scope (single (view x)) (single (view y)) × AreDone i old now
+  AreDone (suc i) (x ∷ old) (y ∷ now) = AreScoped stated all differing own scope (single (view x)) (single (view y)) × AreDone i old now
 
   done_next : (i : ℕ) (old now : List Term) (x y : Term) → i < length now → x ≡ get_or now i x → AreDone i old now
-      → AreScoped stated all own scope (single (view x)) (single (view y)) → AreDone (suc i) old (set now i y)
+      → AreScoped stated all differing own scope (single (view x)) (single (view y)) → AreDone (suc i) old (set now i y)
   done_next i old [] x y inside is done one = absurd (omega (arith, inside))
   done_next zero old (z ∷ now) x y inside is done one =
-      let this : AreScoped stated all own scope (single (view z)) (single (view y)) =
-      subst (λ (t : Term). AreScoped stated all own scope (single (view t)) (single (view y))) is one
+      let this : AreScoped stated all differing own scope (single (view z)) (single (view y)) =
+      subst (λ (t : Term). AreScoped stated all differing own scope (single (view t)) (single (view y))) is one
       in
       subst (λ (l : List Term). AreDone 1 l (y ∷ now)) done (this, refl)
   done_next (suc i) [] (z ∷ now) x y inside is done one = absurd done
@@ -130,12 +130,12 @@ module _ (stated : Counts) (all : List Callee) (own : Counts) (scope : List ℕ)
 
   -- one more
   pub done_on : (i : ℕ) (old now : List Term) (x y : Term) → i < length now → x ≡ get_or now i x → AreDone i old now
-      → AreScoped stated all own scope (single (view x)) (single (view y)) → AreDone (i + 1) old (set now i y)
+      → AreScoped stated all differing own scope (single (view x)) (single (view y)) → AreDone (i + 1) old (set now i y)
   done_on i old now x y inside is done one = let after : suc i ≡ i + 1 = omega arith in subst (λ (k : ℕ). AreDone k old (set now i y)) after (done_next i old now x y inside is done one)
 
   -- all of them
-  pub done_all : (i : ℕ) (old now : List Term) → length now ≤ i → AreDone i old now → AreScoped stated all own scope (views old) (views now)
-  done_all zero old [] past done = subst (λ (l : List Term). AreScoped stated all own scope (views l) end) done tt
+  pub done_all : (i : ℕ) (old now : List Term) → length now ≤ i → AreDone i old now → AreScoped stated all differing own scope (views old) (views now)
+  done_all zero old [] past done = subst (λ (l : List Term). AreScoped stated all differing own scope (views l) end) done tt
   done_all zero old (z ∷ now) past done = absurd (omega (arith, past))
   done_all (suc i) [] [] past done = tt
   done_all (suc i) [] (z ∷ now) past done = absurd done
@@ -162,13 +162,13 @@ of_body code a b c = b
 of_body other a b c = c
 
 module _ (stated own : Counts) where
-  same_scoped : (scope : List ℕ) (ts : Terms) → AreScoped stated [] own scope ts ts
-  same_scoped scope end = tt
-  same_scoped scope (term h w c others) =
-      (refl, refl, of_body (body h) (same_scoped (inside scope h) c) refl refl, same_scoped scope others)
+  same_scoped : (differing : List Callee) (scope : List ℕ) (ts : Terms) → AreScoped stated [] differing own scope ts ts
+  same_scoped differing scope end = tt
+  same_scoped differing scope (term h w c others) =
+      (refl, refl, of_body (body h) (same_scoped differing (inside scope h) c) refl refl, same_scoped differing scope others)
 
   -- without objects that calls may name
-  pub scoped_kept : (scope : List ℕ) (all : List Object) (found : List Callee) (ts : Terms) → length all ≡ 0 → map callee_by all ≡ found
-      → AreScoped stated found own scope ts ts
-  scoped_kept scope [] found ts none is = rw (sym is) (same_scoped scope ts)
-  scoped_kept scope (m ∷ all) found ts none is = absurd (omega (arith, none))
+  pub scoped_kept : (scope : List ℕ) (all : List Object) (found differing : List Callee) (ts : Terms) → length all ≡ 0 → map callee_by all ≡ found
+      → AreScoped stated found differing own scope ts ts
+  scoped_kept scope [] found differing ts none is = rw (sym is) (same_scoped differing scope ts)
+  scoped_kept scope (m ∷ all) found differing ts none is = absurd (omega (arith, none))

@@ -8,9 +8,9 @@ use Rattle.acpi_term.specs.Tree.{Entry, named, reserved, access_as, extended_acc
 use Rattle.acpi_term.specs.View.{view, views, single, IsApart}
 use Rattle.acpi_term.specs.declared.term.Term.{Term}
 use Rattle.acpi_terms_text.specs.declared.objects.Kept.{Kept}
-use Rattle.acpi_terms_text.specs.declared.objects.Kept.TheVariants.{All, Among, In}
+use Rattle.acpi_terms_text.specs.declared.objects.Kept.TheVariants.{All, Among, In, Other}
 use Rattle.acpi_terms_text.specs.Objects.{inside, is_method, Callee, makes, if_named, as_segment, own_unit, own_units, own_external, made_by, name_at, own_operand, own_objects, objects}
-use Rattle.acpi_terms_text.specs.Objects.{own_segment, segments, all_among, segment_of, own_segments, segments_in, has_segment, if_kept, all_kept, named_in}
+use Rattle.acpi_terms_text.specs.Objects.{own_segment, segments, all_among, segment_of, own_segments, segments_in, has_segment, if_kept, all_kept, named_in, with_other}
 use Rattle.acpi_terms_text.specs.Path.{last_segment}
 use Rattle.acpi_terms_text.proofs.Walks.{both_added, objects_step, objects_over}
 
@@ -54,6 +54,7 @@ abbrev pub kept_as : Kept → Callees → Callees
 kept_as All all = all
 kept_as (Among among) all = all_among among.now all
 kept_as (In bytes) all = named_in bytes.now all
+kept_as (Other own) all = with_other own.now all
 
 pub kept_is : (k : Kept) (all : Callees) → all_kept k all ≡ kept_as k all
 kept_is All [] = refl
@@ -64,6 +65,10 @@ kept_is (Among among) (m ∷ all) =
     ∙ ap (λ (l : Callees). l ++ all_among among.now all) (not_branch (arity among.now (last_segment m.name) == 0) (m ∷ []) [])
 kept_is (In bytes) [] = refl
 kept_is (In bytes) (m ∷ all) = ap (λ (l : Callees). if_kept (In bytes) m ++ l) (kept_is (In bytes) all)
+kept_is (Other own) [] = refl
+kept_is (Other own) (m ∷ all) =
+    ap (λ (l : Callees). if_kept (Other own) m ++ l) (kept_is (Other own) all)
+    ∙ ap (λ (l : Callees). l ++ with_other own.now all) (not_branch (arity own.now (last_segment m.name) == m.args) (m ∷ []) [])
 
 pub kept_both : (k : Kept) (a b : Callees) → all_kept k (a ++ b) ≡ all_kept k a ++ all_kept k b
 kept_both k [] b = refl

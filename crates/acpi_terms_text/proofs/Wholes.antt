@@ -9,7 +9,7 @@ use Rattle.acpi_term.specs.Tree.{Head, def_scope, def_device, def_method, def_po
 use Rattle.acpi_term.specs.declared.language.Language.TheVariants.{Standard}
 use Rattle.acpi_term.specs.declared.mode.Mode.TheVariants.{Term}
 use Rattle.acpi_terms_text.specs.Block.{AreBlockTerms, AreBlockTermsInPart}
-use Rattle.acpi_terms_text.specs.Objects.{Callee, callee_by, objects, all_callees, first_numbers, own_numbers, AreOwn}
+use Rattle.acpi_terms_text.specs.Objects.{Callee, callee_by, objects, all_callees, first_numbers, own_numbers, with_other, AreOwn}
 use Rattle.acpi_terms_text.specs.Scoped.{any, is_unread, AreInScopes}
 use Rattle.acpi_terms_text.specs.declared.objects.Object.{Object}
 use Rattle.acpi_terms_text.proofs.Scopes.{scoped_kept}
@@ -21,11 +21,11 @@ no_objects : (all : List Object) → length all ≡ 0 → map callee_by all ≡ 
 no_objects [] none = refl
 no_objects (m ∷ all) none = absurd (omega (arith, none))
 
-first_false : (a b : Bool) → (a || b) ≡ false → a ≡ false
+pub first_false : (a b : Bool) → (a || b) ≡ false → a ≡ false
 first_false true b none = none
 first_false false b none = refl
 
-second_false : (a b : Bool) → (a || b) ≡ false → b ≡ false
+pub second_false : (a b : Bool) → (a || b) ≡ false → b ≡ false
 second_false true b none = absurd cc
 second_false false b none = none
 
@@ -110,7 +110,7 @@ module _ (stated : Counts) (further : List Callee) (bytes : List ℕ) (first : C
   }
 
   in_scopes : AreInScopes stated further first terms terms
-  in_scopes = scoped_kept stated first [] all (all_callees terms further) terms none are
+  in_scopes = scoped_kept stated first [] all (all_callees terms further) (with_other first (all_callees terms further)) terms none are
 
   pub block_of_part : any is_unread terms ≡ false → AreBlockTerms stated further bytes terms
   block_of_part whole = record {

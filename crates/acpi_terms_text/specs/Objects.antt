@@ -9,7 +9,7 @@ use Rattle.acpi_term.specs.PathText.{name_of_segments}
 use Rattle.acpi_terms_text.specs.Path.{path_in, last_segment}
 use Rattle.acpi_terms_text.specs.declared.objects.Object.{Object}
 use Rattle.acpi_terms_text.specs.declared.objects.Kept.{Kept}
-use Rattle.acpi_terms_text.specs.declared.objects.Kept.TheVariants.{All, Among, In}
+use Rattle.acpi_terms_text.specs.declared.objects.Kept.TheVariants.{All, Among, In, Other}
 use Rattle.acpi_term.specs.Tree.{Entry, named, Head, call, op, def_scope, def_device, def_method, def_power_res, def_field}
 use Rattle.acpi_term.specs.Tree.{def_op_region, def_name, def_mutex, def_external, def_leveled_method, def_processor}
 use Rattle.acpi_term.specs.Tree.{def_thermal_zone, def_index_field, def_bank_field, Terms, end, term}
@@ -187,16 +187,17 @@ abbrev pub has_segment : List ℕ → List ℕ → Bool
 has_segment (a ∷ b ∷ c ∷ d ∷ bytes) segment = bytes_eq (a ∷ b ∷ c ∷ d ∷ []) segment || has_segment (b ∷ c ∷ d ∷ bytes) segment
 has_segment _ segment = false
 
--- whether an object of this name is kept
-abbrev pub keeps : Kept → List ℕ → Bool
-keeps All name = true
-keeps (Among among) name = not (arity among.now (last_segment name) == 0)
-keeps (In bytes) name = has_segment bytes.now (last_segment name)
+-- whether an object of this name with so many arguments is kept
+abbrev pub keeps : Kept → List ℕ → ℕ → Bool
+keeps All name args = true
+keeps (Among among) name args = not (arity among.now (last_segment name) == 0)
+keeps (In bytes) name args = has_segment bytes.now (last_segment name)
+keeps (Other numbers) name args = not (arity numbers.now (last_segment name) == args)
 
 abbrev pub if_kept : Kept → Callee → List Callee
-if_kept kept m = if keeps kept m.name then m ∷ [] else []
+if_kept kept m = if keeps kept m.name m.args then m ∷ [] else []
 
--- the objects that are kept: all of them, those of `all_among`, or those of `named_in` (`kept_is`)
+-- the objects that are kept: all of them, those of `all_among`, of `named_in`, or of `with_other` (`kept_is`)
 abbrev pub all_kept : Kept → List Callee → List Callee
 all_kept kept [] = []
 all_kept kept (m ∷ all) = if_kept kept m ++ all_kept kept all
@@ -205,6 +206,11 @@ all_kept kept (m ∷ all) = if_kept kept m ++ all_kept kept all
 abbrev pub named_in : List ℕ → List Callee → List Callee
 named_in bytes [] = []
 named_in bytes (m ∷ all) = (if has_segment bytes (last_segment m.name) then m ∷ [] else []) ++ named_in bytes all
+
+-- the objects whose last segment has another number in a list
+abbrev pub with_other : List (List ℕ × ℕ) → List Callee → List Callee
+with_other own [] = []
+with_other own (m ∷ all) = (if arity own (last_segment m.name) == m.args then [] else m ∷ []) ++ with_other own all
 
 -- ---- numbers of arguments
 

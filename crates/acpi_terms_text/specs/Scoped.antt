@@ -1,13 +1,12 @@
 -- Calls by the search rules of names (ACPI 6.5, 5.3).
-use Rattle.std.specs.Prelude.{◌≡◌, ◌≢◌, ◌⊎◌, ℕ, zero, suc, ◌==◌, ◌/◌, not, ◌&&◌, ◌||◌, Bool, true, false}
-use Rattle.std.specs.Prelude.{if◌then◌else◌, List, [], ◌∷◌, ◌++◌, length, drop, nat_eq, nat_lt}
+use Rattle.std.specs.Prelude.{◌≡◌, ◌≢◌, ◌⊎◌, ℕ, zero, suc, ◌==◌, ◌/◌, not, ◌&&◌, ◌||◌, Bool, true, false, map}
+use Rattle.std.specs.Prelude.{if◌then◌else◌, List, [], ◌∷◌, ◌++◌, length, drop, nat_eq, nat_lt, Option, Some, None}
 use Rattle.std.specs.List.{starts_with}
 use Rattle.std.specs.Option.{option_map}
 use Rattle.std.specs.Str.{bytes_eq}
 use Rattle.acpi_read.specs.Terms.{AreReadIn, IsUnreadIn}
-use Rattle.acpi_term.specs.Arity.{arity, grammar_by, is_stated, with_all}
+use Rattle.acpi_term.specs.Arity.{arity_above, grammar_by, with_all}
 use Rattle.acpi_term.specs.Carried.{AreCarried}
-use Rattle.acpi_term.specs.Name.{without_parents}
 use Rattle.acpi_term.specs.PathText.{is_rooted, name_of_segments}
 use Rattle.acpi_term.specs.Spelling.{spelling}
 use Rattle.acpi_term.specs.Tree.{Head, call, def_scope, def_device, def_method, def_power_res, def_leveled_method}
@@ -15,8 +14,9 @@ use Rattle.acpi_term.specs.Tree.{def_processor, def_thermal_zone, def_if, def_el
 use Rattle.acpi_term.specs.declared.language.Language.TheVariants.{Standard}
 use Rattle.acpi_term.specs.declared.read_error.ReadError.{ReadError}
 use Rattle.acpi_term.specs.declared.read_error.ReadError.TheVariants.{Memory}
-use Rattle.acpi_terms_text.specs.Objects.{inside, as_segment, counted, Callee, called, all_callees, named_in, predefined}
-use Rattle.acpi_terms_text.specs.Path.{parent, last_segment}
+use Rattle.acpi_terms_text.specs.Objects.{inside, as_segment, counted, Callee, callee_by, called, all_callees, named_in}
+use Rattle.acpi_terms_text.specs.Objects.{predefined, with_other}
+use Rattle.acpi_terms_text.specs.Path.{parent, path_in, last_segment}
 use Rattle.acpi_terms_text.specs.declared.scoped.Sought.{Sought}
 use Rattle.acpi_terms_text.specs.declared.scoped.Sought.TheVariants.{Name, Path, Unread}
 
@@ -78,20 +78,34 @@ abbrev pub any : (Head → Bool) → Terms → Bool
 any is end = false
 any is (term h w children others) = is h || (any is children || any is others)
 
--- whether one of these numbers of arguments is another than that of its name in a list, and terms have the name
-abbrev pub differ : List (List ℕ × ℕ) → Terms → List (List ℕ × ℕ) → Bool
-differ own terms [] = false
-differ own terms (a ∷ all) = not (arity own a.0 == a.1) && any (may_name a.0) terms || differ own terms all
+-- whether terms have one of these names
+abbrev pub have_name : Terms → List (List ℕ × ℕ) → Bool
+have_name terms [] = false
+have_name terms (a ∷ all) = any (may_name a.0) terms || have_name terms all
 
 -- whether a name is one whose object depends on the scope, and that isn't searched: it begins with `^`, or has several segments
 abbrev pub is_relative : List ℕ → Bool
 is_relative name = nat_lt 4 (length name) && not (is_rooted name)
 
--- whether a head is such a name, of which the part after `^` has a number in a list, or has bytes that aren't read
-abbrev pub may_be_path : List (List ℕ × ℕ) → Head → Bool
-may_be_path own (call name) = is_relative name && is_stated own (without_parents name)
-may_be_path own (unread error bytes) = true
-may_be_path own _ = false
+-- the number of arguments of the first object of a path
+abbrev pub args_at : List ℕ → List Callee → Option ℕ
+args_at path [] = None
+args_at path (m ∷ all) = if bytes_eq m.path path then Some m.args else args_at path all
+
+-- whether there is a number, and it is another than this one
+abbrev pub is_other : Option ℕ → ℕ → Bool
+is_other None n = false
+is_other (Some m) n = not (m == n)
+
+-- whether such a name in a scope is that of an object with another number of arguments than the name has in a list
+abbrev pub has_other : List (List ℕ × ℕ) → List Callee → List ℕ → List ℕ → Bool
+has_other own all scope name = is_relative name && is_other (args_at (path_in scope name) all) (arity_above own name)
+
+-- whether a head is one, or has bytes that aren't read
+abbrev pub may_be_other : List (List ℕ × ℕ) → List Callee → List ℕ → Head → Bool
+may_be_other own all scope (call name) = has_other own all scope name
+may_be_other own all scope (unread error bytes) = true
+may_be_other own all scope _ = false
 
 -- whether a head stands for bytes that aren't read
 abbrev pub is_unread : Head → Bool
@@ -101,13 +115,15 @@ is_unread _ = false
 -- what is looked for in terms
 abbrev pub sought : Sought → Head → Bool
 sought (Name name) = may_name name.now
-sought (Path own) = may_be_path own.now
+sought (Path own all scope) = may_be_other own.now (map callee_by all.now) scope.now
 sought Unread = is_unread
 
--- Whether terms in a scope may have other numbers than those of a list, by which they were read.
-abbrev pub are_other : List (List ℕ × ℕ) → List Callee → List ℕ → Terms → Bool
-are_other own [] scope terms = false
-are_other own (m ∷ all) scope terms = differ own terms (nearest scope (m ∷ all)) || any (may_be_path own) terms
+-- Whether terms in a scope may have other numbers than those of a list, by which they were read. These are all objects, and those
+-- of them whose last segment has another number.
+abbrev pub are_other : List (List ℕ × ℕ) → List Callee → List Callee → List ℕ → Terms → Bool
+are_other own [] differing scope terms = false
+are_other own (m ∷ all) differing scope terms =
+    have_name terms (nearest scope differing) || any (may_be_other own (m ∷ all) scope) terms
 
 -- The numbers in a scope: those that a caller states, those of the nearest objects, those of objects by their paths from the
 -- scope, and then those of the whole block. If there are several for a name, the first one holds.
@@ -163,10 +179,10 @@ OfBody space a b c = a
 OfBody code a b c = b
 OfBody other a b c = c
 
-module _ (stated : List (List ℕ × ℕ)) (all : List Callee) (own : List (List ℕ × ℕ)) where
+module _ (stated : List (List ℕ × ℕ)) (all differing : List Callee) (own : List (List ℕ × ℕ)) where
   -- the terms of a method's body in this scope
   abbrev pub IsBody : List ℕ → Terms → Terms → Type 0
-  IsBody scope old new = AreIfRead (are_other own all scope old) (numbers_for stated all scope old) old new
+  IsBody scope old new = AreIfRead (are_other own all differing scope old) (numbers_for stated all scope old) old new
 
   -- Terms in a scope, of which each method's body was read with the numbers of its scope.
   abbrev pub AreScoped : List ℕ → Terms → Terms → Type 0
@@ -183,4 +199,5 @@ module _ (stated : List (List ℕ × ℕ)) (all : List Callee) (own : List (List
 -- The terms of a block that were read with the numbers `own`, of which each method's body was read with the numbers of its scope,
 -- by the block's objects and those of further blocks.
 abbrev pub AreInScopes : List (List ℕ × ℕ) → List Callee → List (List ℕ × ℕ) → Terms → Terms → Type 0
-AreInScopes stated further own old new = AreScoped stated (all_callees old further) own [] old new
+AreInScopes stated further own old new =
+    AreScoped stated (all_callees old further) (with_other own (all_callees old further)) own [] old new

@@ -52,8 +52,8 @@ pub fn inner_scope<'a>(scope: &'a [u8], own: &'a Option<Vec<u8>>) -> &'a [u8]
     }
 }
 
-/// Adds a number of arguments for the name of these segments, from the root or without it, if they have one.
-pub fn add_name(
+// Adds a number of arguments for the name of these segments, from the root or without it, if they have one.
+fn add_name(
     alloc: Global,
     from_root: bool,
     segments: &[u8],
@@ -114,6 +114,8 @@ pub(crate) enum Kept<'a> {
     Among(&'a Arities),
     // Those whose last segment is in these bytes.
     In(&'a [u8]),
+    // Those whose last segment has another number here.
+    Other(&'a Arities),
 }
 
 // Returns whether these four bytes are a segment.
@@ -138,14 +140,15 @@ fn has_segment(bytes: &[u8], segment: &[u8]) -> bool
     false
 }
 
-// Returns whether an object of this name is kept.
-fn keeps(kept: Kept<'_>, name: &[u8]) -> bool
-    ensures { result ≡ keeps kept.entry name.now }
+// Returns whether an object of this name with so many arguments is kept.
+fn keeps(kept: Kept<'_>, name: &[u8], args: u8) -> bool
+    ensures { result ≡ keeps kept.entry name.now args }
 {
     match kept {
         Kept::All => true,
         Kept::Among(among) => among.count_of(last_segment(name)) != 0,
         Kept::In(bytes) => has_segment(bytes, last_segment(name)),
+        Kept::Other(numbers) => numbers.count_of(last_segment(name)) != args,
     }
 }
 
@@ -177,7 +180,7 @@ fn push_object(
     ensures { OnOk result (map callee_by all.new.items ≡ map callee_by all.old.items
         ++ all_kept kept.entry (makes scope.now name.now args)) }
 {
-    if !keeps(kept, name.as_bytes()) {
+    if !keeps(kept, name.as_bytes(), args) {
         return Ok(());
     }
     let path = path_in(alloc, scope, name)?;
@@ -185,7 +188,7 @@ fn push_object(
 }
 
 /// Returns the name that is a segment alone, if these bytes are one.
-pub fn as_segment(alloc: Global, bytes: &[u8]) -> Result<Option<NameString>, AllocError>
+pub(crate) fn as_segment(alloc: Global, bytes: &[u8]) -> Result<Option<NameString>, AllocError>
     ensures { IfOk result (λ name. name ≡ as_segment bytes.now) }
 {
     match bytes {
@@ -406,7 +409,7 @@ fn push_copy(
     ensures { OnOk result (map callee_by all.new.items ≡ map callee_by all.old.items
         ++ all_kept kept.entry (callee_by object.now ∷ [])) }
 {
-    if !keeps(kept, object.name.as_bytes()) {
+    if !keeps(kept, object.name.as_bytes(), object.args) {
         return Ok(());
     }
     let path = Vec::from_slice(alloc, &object.path)?;
@@ -431,8 +434,8 @@ pub(crate) fn push_copies(
 
 // ---- the objects whose number of arguments matters
 
-/// Returns an empty list of numbers.
-pub fn no_numbers(alloc: Global) -> Result<Arities, AllocError>
+// Returns an empty list of numbers.
+fn no_numbers(alloc: Global) -> Result<Arities, AllocError>
     ensures { IfOk result (λ all. all ≡ []) }
 {
     match Arities::new(Vec::new(alloc)) {

@@ -1,6 +1,7 @@
 //! Paths: the segments of an object's name from the root on (ACPI 6.5, 5.3).
 
 ghost use Rattle.std.specs.Prelude.{◌≡◌, ◌++◌, IfOk};
+ghost use Rattle.std.specs.Str.{bytes_eq};
 ghost use Rattle.acpi_terms_text.specs.Path.{parent, path_in, last_segment};
 
 use acpi_read::report::words::segments_of;
@@ -44,6 +45,33 @@ pub fn path_in(alloc: Global, scope: &[u8], name: &NameString) -> Result<Vec<u8>
     ensures { IfOk result (λ path. path.items ≡ path_in scope.now name.now) }
 {
     of_bytes(alloc, scope, name.as_bytes())
+}
+
+// Returns whether a path is this one, which is given in two parts.
+fn is_joined(front: &[u8], rest: &[u8], path: &[u8]) -> bool
+    ensures { result ≡ bytes_eq path.now (front.now ++ rest.now) }
+{
+    match path.strip_prefix(front) {
+        Some(more) => more == rest,
+        None => false,
+    }
+}
+
+/// Returns whether a path is that of a name in a scope.
+pub(crate) fn is_path_in(scope: &[u8], name: &[u8], path: &[u8]) -> bool
+    ensures { result ≡ bytes_eq path.now (path_in scope.now name.now) }
+{
+    let mut around = scope;
+    let mut rest = name;
+    'parents: while let [0x5e, more @ ..] = rest {
+        around = parent(around);
+        rest = more;
+    }
+    match rest {
+        [] => path == around,
+        [0x5c, more @ ..] => path == segments_of(more),
+        _ => is_joined(around, segments_of(rest), path),
+    }
 }
 
 /// Returns the last segment of a name.

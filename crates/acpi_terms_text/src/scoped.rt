@@ -6,22 +6,23 @@ ghost use Rattle.std.specs.Str.{bytes_eq};
 ghost use Rattle.acpi_term.specs.Arity.{arity, with_all};
 ghost use Rattle.acpi_term.specs.PathText.{name_of_segments};
 ghost use Rattle.acpi_term.specs.View.{head_of, view, views, single};
-ghost use Rattle.acpi_terms_text.specs.Objects.{as_segment, callee_by, counted, named_in};
-ghost use Rattle.acpi_terms_text.specs.Path.{parent};
-ghost use Rattle.acpi_terms_text.specs.Scoped.{here, made_in, near, nearest, may_name, any, differ, numbers_in};
+ghost use Rattle.acpi_terms_text.specs.Objects.{as_segment, callee_by, counted, named_in, with_other};
+ghost use Rattle.acpi_terms_text.specs.Path.{parent, path_in};
+ghost use Rattle.acpi_terms_text.specs.Scoped.{here, made_in, near, nearest, may_name, any, have_name, numbers_in};
 ghost use Rattle.acpi_terms_text.specs.Scoped.{numbers_for};
-ghost use Rattle.acpi_terms_text.specs.Scoped.{AreParents, below, all_below, all_relative, is_relative, may_be_path, is_unread};
+ghost use Rattle.acpi_terms_text.specs.Scoped.{AreParents, below, all_below, all_relative, is_relative, args_at, has_other};
+ghost use Rattle.acpi_terms_text.specs.Scoped.{may_be_other, is_unread};
 ghost use Rattle.acpi_terms_text.specs.Scoped.{sought as sought_in, are_other};
 ghost use Rattle.acpi_terms_text.specs.Scoped.{AreReadAgain, AreKept, IsBody, AreScoped, AreInScopes};
 
 use crate::objects::{
     Kept, Object, add_objects, add_predefined, all_callees, as_segment, push_copies,
 };
-use crate::path::{joined, last_segment, parent, path_in};
+use crate::path::{is_path_in, joined, last_segment, parent, path_in};
 use acpi_base::error::Error;
 use acpi_read::terms::standard_terms;
 use acpi_term::apart::{Kind, parts_of};
-use acpi_term::name_string::{Arities, NameString, name_of, without_parents};
+use acpi_term::name_string::{Arities, NameString, name_of};
 use acpi_term::read_error::ReadError;
 use acpi_term::segment::is_segment;
 use acpi_term::spell::spell;
@@ -35,6 +36,8 @@ struct Numbers<'a> {
     // The numbers that a caller states.
     stated: &'a Arities,
     objects: &'a [Object],
+    // The objects whose last segment has another number in `own`.
+    differing: &'a [Object],
     // The numbers by which the whole block was read.
     own: &'a Arities,
 }
@@ -206,14 +209,35 @@ fn is_relative(name: &[u8]) -> bool
     name.len() > 4 && !matches!(name, [0x5c, ..])
 }
 
-// Returns whether a term is such a name, of which the part after `^` has a number in a list, or has bytes that aren't read.
-fn may_be_path(own: &Arities, kind: Kind<'_>) -> bool
-    ensures { result ≡ may_be_path own.now (head_of kind.entry) }
+// Returns the number of arguments of the first object that is at the path of a name in a scope.
+fn args_at(scope: &[u8], name: &[u8], objects: &[Object]) -> Option<u8>
+    ensures { result ≡ args_at (path_in scope.now name.now) (map callee_by objects.now) }
+{
+    'objects: for object in objects {
+        if is_path_in(scope, name, &object.path) {
+            return Some(object.args);
+        }
+    }
+    None
+}
+
+// Returns whether a name in a scope is relative to it, and that of an object with another number of arguments than in a list.
+fn has_other(own: &Arities, objects: &[Object], scope: &[u8], name: &[u8]) -> bool
+    ensures { result ≡ has_other own.now (map callee_by objects.now) scope.now name.now }
+{
+    is_relative(name)
+        && match args_at(scope, name, objects) {
+            Some(args) => args != own.count_above(name),
+            None => false,
+        }
+}
+
+// Returns whether a term is such a name, or has bytes that aren't read.
+fn may_be_other(own: &Arities, objects: &[Object], scope: &[u8], kind: Kind<'_>) -> bool
+    ensures { result ≡ may_be_other own.now (map callee_by objects.now) scope.now (head_of kind.entry) }
 {
     match kind {
-        Kind::Call(name) => {
-            is_relative(name.as_bytes()) && own.states(without_parents(name.as_bytes()))
-        }
+        Kind::Call(name) => has_other(own, objects, scope, name.as_bytes()),
         Kind::Unread(..) => true,
         _ => false,
     }
@@ -224,8 +248,8 @@ fn may_be_path(own: &Arities, kind: Kind<'_>) -> bool
 pub(crate) enum Sought<'a> {
     // This name.
     Name(&'a [u8]),
-    // A name that depends on the scope, and isn't searched. The list has the numbers of names.
-    Path(&'a Arities),
+    // A name that is relative to this scope, and that of one of these objects, which has another number than in this list.
+    Path(&'a Arities, &'a [Object], &'a [u8]),
     // Bytes that aren't read.
     Unread,
 }
@@ -246,7 +270,7 @@ fn is_sought(sought: Sought<'_>, kind: Kind<'_>) -> bool
 {
     match sought {
         Sought::Name(name) => may_name(name, kind),
-        Sought::Path(own) => may_be_path(own, kind),
+        Sought::Path(own, objects, scope) => may_be_other(own, objects, scope, kind),
         Sought::Unread => is_unread(kind),
     }
 }
@@ -278,33 +302,29 @@ fn has(sought: Sought<'_>, term: &Term) -> bool
     any(sought, parts.others)
 }
 
-// Returns whether a segment has another number than in a list, and a body has it as a name.
-fn differs_by(own: &Arities, bytes: &[u8], args: u8, body: &[Term]) -> bool
-    ensures { result ≡ differ own.now (views body.now) (counted args (as_segment bytes.now)) }
+// Returns whether a body has this segment as a name.
+fn names_segment(segment: &[u8], args: u8, body: &[Term]) -> bool
+    ensures { result ≡ have_name (views body.now) (counted args (as_segment segment.now)) }
 {
-    match bytes {
-        [a, b, c, d] => {
-            is_segment(*a, *b, *c, *d)
-                && own.count_of(bytes) != args
-                && any(Sought::Name(bytes), body)
-        }
+    match segment {
+        [a, b, c, d] => is_segment(*a, *b, *c, *d) && any(Sought::Name(segment), body),
         _ => false,
     }
 }
 
-// Returns whether an object in this scope has another number than its last segment in a list, and a body has this name.
-fn differs_here(own: &Arities, scope: &[u8], body: &[Term], object: &Object) -> bool
-    ensures { result ≡ differ own.now (views body.now) (here scope.now (callee_by object.now)) }
+// Returns whether a body has the last segment of an object as a name, and the object is in this scope.
+fn names_here(scope: &[u8], body: &[Term], object: &Object) -> bool
+    ensures { result ≡ have_name (views body.now) (here scope.now (callee_by object.now)) }
 {
-    is_in(scope, object) && differs_by(own, last_segment(object.name.as_bytes()), object.args, body)
+    is_in(scope, object) && names_segment(last_segment(object.name.as_bytes()), object.args, body)
 }
 
-// Returns whether one of them has.
-fn differs_in(own: &Arities, scope: &[u8], body: &[Term], objects: &[Object]) -> bool
-    ensures { result ≡ differ own.now (views body.now) (made_in scope.now (map callee_by objects.now)) }
+// Returns whether it has that of one of them.
+fn names_in(scope: &[u8], body: &[Term], objects: &[Object]) -> bool
+    ensures { result ≡ have_name (views body.now) (made_in scope.now (map callee_by objects.now)) }
 {
     'objects: for object in objects {
-        if differs_here(own, scope, body, object) {
+        if names_here(scope, body, object) {
             return true;
         }
     }
@@ -312,29 +332,24 @@ fn differs_in(own: &Arities, scope: &[u8], body: &[Term], objects: &[Object]) ->
 }
 
 // Returns the same of a scope, and of so many scopes around it.
-#[cycle(differs)]
-fn differs_near(
-    own: &Arities,
-    levels: usize,
-    scope: &[u8],
-    body: &[Term],
-    objects: &[Object],
-) -> bool
-    ensures { result ≡ differ own.now (views body.now) (near levels scope.now (map callee_by objects.now)) }
+#[cycle(names)]
+fn names_near(levels: usize, scope: &[u8], body: &[Term], objects: &[Object]) -> bool
+    ensures { result ≡ have_name (views body.now) (near levels scope.now (map callee_by objects.now)) }
 {
-    differs_in(own, scope, body, objects)
-        || levels > 0 && differs_near(own, levels - 1, parent(scope), body, objects)
+    names_in(scope, body, objects)
+        || levels > 0 && names_near(levels - 1, parent(scope), body, objects)
 }
 
 // Returns whether terms in a scope may have other numbers than those by which they were read.
 fn are_other(numbers: &Numbers<'_>, scope: &[u8], body: &[Term]) -> bool
-    ensures { result ≡ are_other numbers.now.own.now (map callee_by numbers.now.objects.now) scope.now (views body.now) }
+    ensures { result ≡ are_other numbers.now.own.now (map callee_by numbers.now.objects.now)
+        (map callee_by numbers.now.differing.now) scope.now (views body.now) }
 {
     if numbers.objects.is_empty() {
         return false;
     }
-    differs_near(numbers.own, scope.len() / 4, scope, body, numbers.objects)
-        || any(Sought::Path(numbers.own), body)
+    names_near(scope.len() / 4, scope, body, numbers.differing)
+        || any(Sought::Path(numbers.own, numbers.objects, scope), body)
 }
 
 // ---- the terms of a method's body
@@ -346,6 +361,16 @@ fn named_in(alloc: Global, bytes: &[u8], objects: &[Object]) -> Result<Vec<Objec
 {
     let mut all = Vec::new(alloc);
     push_copies(alloc, Kept::In(bytes), objects, &mut all)?;
+    Ok(all)
+}
+
+// Returns copies of the objects whose last segment has another number in a list.
+#[tactic(auto, using(crate::proofs::Segments::kept_is))]
+fn with_other(alloc: Global, own: &Arities, objects: &[Object]) -> Result<Vec<Object>, AllocError>
+    ensures { IfOk result (λ all. map callee_by all.items ≡ with_other own.now (map callee_by objects.now)) }
+{
+    let mut all = Vec::new(alloc);
+    push_copies(alloc, Kept::Other(own), objects, &mut all)?;
     Ok(all)
 }
 
@@ -400,8 +425,8 @@ fn body_in(
     scope: &[u8],
     body: Vec<Term>,
 ) -> Result<Vec<Term>, AllocError>
-    ensures { IfOk result (λ terms. IsBody numbers.now.stated.now (map callee_by numbers.now.objects.now) numbers.now.own.now
-        scope.now (views body.items) (views terms.items)) }
+    ensures { IfOk result (λ terms. IsBody numbers.now.stated.now (map callee_by numbers.now.objects.now)
+        (map callee_by numbers.now.differing.now) numbers.now.own.now scope.now (views body.items) (views terms.items)) }
 {
     if are_other(numbers, scope, &body) {
         read_again(alloc, numbers, scope, body)
@@ -420,8 +445,8 @@ fn scoped_terms(
     scope: &[u8],
     mut terms: Vec<Term>,
 ) -> Result<Vec<Term>, AllocError>
-    ensures { IfOk result (λ all. AreScoped numbers.now.stated.now (map callee_by numbers.now.objects.now) numbers.now.own.now
-        scope.now (views terms.items) (views all.items)) }
+    ensures { IfOk result (λ all. AreScoped numbers.now.stated.now (map callee_by numbers.now.objects.now)
+        (map callee_by numbers.now.differing.now) numbers.now.own.now scope.now (views terms.items) (views all.items)) }
 {
     for term in terms.iter_mut() {
         let old = replace(term, Term::Ones);
@@ -437,8 +462,8 @@ fn scoped_box(
     scope: &[u8],
     mut term: Box<Term>,
 ) -> Result<Box<Term>, AllocError>
-    ensures { IfOk result (λ new. AreScoped numbers.now.stated.now (map callee_by numbers.now.objects.now) numbers.now.own.now
-        scope.now (single (view term.value)) (single (view new.value))) }
+    ensures { IfOk result (λ new. AreScoped numbers.now.stated.now (map callee_by numbers.now.objects.now)
+        (map callee_by numbers.now.differing.now) numbers.now.own.now scope.now (single (view term.value)) (single (view new.value))) }
 {
     let old = replace(&mut *term, Term::Ones);
     *term = scoped_term(alloc, numbers, scope, old)?;
@@ -452,8 +477,8 @@ fn scoped_term(
     scope: &[u8],
     term: Term,
 ) -> Result<Term, AllocError>
-    ensures { IfOk result (λ new. AreScoped numbers.now.stated.now (map callee_by numbers.now.objects.now) numbers.now.own.now
-        scope.now (single (view term)) (single (view new))) }
+    ensures { IfOk result (λ new. AreScoped numbers.now.stated.now (map callee_by numbers.now.objects.now)
+        (map callee_by numbers.now.differing.now) numbers.now.own.now scope.now (single (view term)) (single (view new))) }
 {
     match term {
         Term::Scope { width, name, body } => {
@@ -583,8 +608,8 @@ fn scoped_term(
 /// or in one around it. Other names find the object of this path from the scope. Stated numbers come first, and a name that finds
 /// no object is read as before. The objects of further blocks count as those of the block itself.
 ///
-/// A body is read again if it has a name whose number in its scope is another than in `own`, a name of several segments or after
-/// `^`, or bytes that aren't read. It stays as it is if its bytes spell no terms with the numbers of its scope.
+/// A body is read again if it has a name whose number in its scope is another than in `own`, or bytes that aren't read. It stays as
+/// it is if its bytes spell no terms with the numbers of its scope.
 pub fn in_scopes(
     alloc: Global,
     stated: &Arities,
@@ -599,9 +624,11 @@ pub fn in_scopes(
     if objects.is_empty() {
         return Ok(terms);
     }
+    let differing = with_other(alloc, own, &objects)?;
     let numbers = Numbers {
         stated,
         objects: &objects,
+        differing: &differing,
         own,
     };
     scoped_terms(alloc, &numbers, &[], terms)

@@ -76,12 +76,14 @@ IsDisassembled block stated further name bytes out out' err err' status =
 abbrev pub DisassemblesFile : BlockText → List (List ℕ × ℕ) → List Callee → List ℕ
     → Option (List ℕ) → Option (List ℕ) → Option (List ℕ) → Option (List ℕ) → ℕ → Type 0
 DisassemblesFile block stated further name out out' err err' status =
-    ((bytes : List ℕ) × IsDisassembled block stated further name bytes out out' err err' status) ⊎ NotRead name out out' err err' status
+    ((bytes : List ℕ) × IsDisassembled block stated further name bytes out out' err err' status)
+    ⊎ NotRead name out out' err err' status
 
 -- ---- further blocks, whose methods the first one may call
 
 -- the methods of a file's block were added to others
-pub record IsFurtherBlock (stated : List (List ℕ × ℕ)) (old new : List Callee) (err err' : Option (List ℕ)) (status : ℕ) : Type 0 where
+pub record IsFurtherBlock (stated : List (List ℕ × ℕ)) (old new : List Callee) (err err' : Option (List ℕ)) (status : ℕ)
+    : Type 0 where
   pub bytes : List ℕ
   pub is_block : has_terms bytes ≡ true
   pub added : AddObjectsIn stated (drop 36 bytes) old new

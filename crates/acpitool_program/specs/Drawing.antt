@@ -50,7 +50,8 @@ pub record IsNotDrawn (name bytes : List ℕ) (out out' err err' : Option (List 
   pub silent : Keeps out out'
   pub is : status ≡ 1
 
-abbrev pub DrawsBytes : Bool → List ℕ → List ℕ → Option (List ℕ) → Option (List ℕ) → Option (List ℕ) → Option (List ℕ) → ℕ → Type 0
+abbrev pub DrawsBytes : Bool → List ℕ → List ℕ → Option (List ℕ) → Option (List ℕ) → Option (List ℕ) → Option (List ℕ) → ℕ
+    → Type 0
 DrawsBytes dot name bytes out out' err err' status =
     IsDrawn dot bytes out out' err err' status ⊎ IsNotDrawn name bytes out out' err err' status
 

@@ -87,8 +87,8 @@ tables_text false base bytes tables = table_lines base bytes tables
 
 -- ---- the image
 
--- The first pointer to an XSDT, which has 36 bytes, is at this offset. If there is none, it is the first pointer to an RSDT, which
--- has 20.
+-- The first pointer to an XSDT, which has 36 bytes, is at this offset. If there is none, it is the first pointer to an RSDT,
+-- which has 20.
 abbrev pub IsFirstPointerTo : Root → List ℕ → ℕ → Type 0
 IsFirstPointerTo Xsdt bytes at = IsFirstPointer 36 bytes at
 IsFirstPointerTo Rsdt bytes at = HasNoPointer 36 bytes × IsFirstPointer 20 bytes at

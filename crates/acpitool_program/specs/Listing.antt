@@ -19,7 +19,8 @@ pub record IsAway (base : ℕ) (bytes : List ℕ) (address : ℕ) : Type 0 where
   pub is : address ≡ root_address root at bytes
   pub none : (tables : List Located) → ¬ IsFoundImage base bytes tables
 
--- why a pointer at an offset leads to no tables: because of the XSDT or the RSDT at its own address, or else of what the fault says
+-- why a pointer at an offset leads to no tables: because of the XSDT or the RSDT at its own address, or else of what the fault
+-- says
 abbrev pub IsWhyNone : Root → List ℕ → ℕ → ImageFault → NoImage → Type 0
 IsWhyNone root bytes at fault (Away address) = (fault ≡ Outside address) × (address ≡ root_address root at bytes)
 IsWhyNone root bytes at fault (Wrong other) = other ≡ fault
@@ -43,7 +44,8 @@ why base (Away address) = text_of (Outside address) ++ is_base_right base addres
 why base (Wrong fault) = text_of fault
 
 -- the bytes are an image, and its tables were printed: as JSON, or a line for each
-pub record ListedTables (json : Bool) (base : ℕ) (bytes : List ℕ) (out out' err err' : Option (List ℕ)) (status : ℕ) : Type 0 where
+pub record ListedTables (json : Bool) (base : ℕ) (bytes : List ℕ) (out out' err err' : Option (List ℕ)) (status : ℕ)
+    : Type 0 where
   pub tables : List Located
   pub found : IsFoundImage base bytes tables
   pub wrote : Appends out out' (tables_text json base bytes tables)
@@ -59,7 +61,8 @@ pub record NotListed (file : List ℕ) (base : ℕ) (bytes : List ℕ) (out out'
   pub is : status ≡ 1
 
 -- what comes of the bytes of a file
-abbrev pub ListedBytes : Bool → List ℕ → ℕ → List ℕ → Option (List ℕ) → Option (List ℕ) → Option (List ℕ) → Option (List ℕ) → ℕ → Type 0
+abbrev pub ListedBytes : Bool → List ℕ → ℕ → List ℕ → Option (List ℕ) → Option (List ℕ) → Option (List ℕ) → Option (List ℕ) → ℕ
+    → Type 0
 ListedBytes json file base bytes out out' err err' status =
     ListedTables json base bytes out out' err err' status ⊎ NotListed file base bytes out out' err err' status
 

@@ -1,5 +1,6 @@
 -- What a run of the program prints.
-use Rattle.std.specs.Prelude.{◌≡◌, ◌≢◌, ◌⊎◌, ℕ, nat_lt, Bool, true, false, List, [], ◌++◌, Option, Some, None, length, take, drop, codes, map}
+use Rattle.std.specs.Prelude.{◌≡◌, ◌≢◌, ◌⊎◌, ℕ, nat_lt, Bool, true, false, List, [], ◌++◌, Option, Some, None, length, take, drop}
+use Rattle.std.specs.Prelude.{codes, map}
 use Rattle.std.specs.Prelude.{string_bytes, if◌then◌else◌}
 use Rattle.std.specs.Str.{bytes_eq}
 use Rattle.std.specs.Io.KnownBytes.{Keeps, Appends}
@@ -26,7 +27,8 @@ use Rattle.acpitool_program.specs.Outcome.{AreOfEach, AreOfWord, PrintedAs}
 use Rattle.acpitool_program.specs.Unpacking.{Unpacks}
 use Rattle.acpitool_program.specs.declared.command.Command.{Command}
 use Rattle.acpitool_program.specs.declared.command.Command.TheVariants.{Help, Version, Show, Check, Image, Make, Template}
-use Rattle.acpitool_program.specs.declared.command.Command.TheVariants.{Disassemble, Names, Unpack, Cpio, Lay, Loader, Diff, Json, Tree}
+use Rattle.acpitool_program.specs.declared.command.Command.TheVariants.{Disassemble, Names, Unpack, Cpio, Lay, Loader, Diff, Json}
+use Rattle.acpitool_program.specs.declared.command.Command.TheVariants.{Tree}
 use Rattle.acpitool_program.specs.declared.command.Misstated.TheVariants as misstated
 use Rattle.acpi_asl.specs.declared.block.BlockText.{BlockText}
 use Rattle.acpi_asl.specs.declared.block.BlockText.TheVariants as blocks
@@ -132,7 +134,8 @@ pub record IsBlockAmong (block : BlockText) (all : List (List ℕ × ℕ)) (file
   pub disassembles : DisassemblesFile block all further file out out' said err' status
 
 -- a further file has no definition block
-pub record IsNoneAmong (all : List (List ℕ × ℕ)) (names : List (List ℕ)) (out out' err err' : Option (List ℕ)) (status : ℕ) : Type 0 where
+pub record IsNoneAmong (all : List (List ℕ × ℕ)) (names : List (List ℕ)) (out out' err err' : Option (List ℕ)) (status : ℕ)
+    : Type 0 where
   pub further : List Callee
   pub adds : AddsFiles all names [] further err err' status
   pub some : status ≢ 0

@@ -42,8 +42,8 @@ pub enum Command<'a> {
     /// `disassemble FILE .. [NAME=N ..]`: the ASL of a definition block in a file, or on standard input where the word is
     /// `-`, and the other words: files with further blocks, and words that state numbers of arguments.
     Disassemble(&'a str, &'a [String]),
-    /// `names [--json] FILE .. [NAME=N ..]`: the objects that such a definition block makes, and the same words. `--json` is there or
-    /// not.
+    /// `names [--json] FILE .. [NAME=N ..]`: the objects that such a definition block makes, and the same words. `--json` is
+    /// there or not.
     Names(bool, &'a str, &'a [String]),
     /// `unpack FILE FOLDER [BASE]`: each table of a dump, or of an image that begins at the physical address BASE in hexadecimal,
     /// or at 0, to a file of a folder. The file with the dump or the image is standard input where the word is `-`.

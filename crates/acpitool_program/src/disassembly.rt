@@ -46,8 +46,8 @@ fn check_block(bytes: &[u8]) -> Result<(), Fault>
     Ok(())
 }
 
-// Prints the text of a definition block and returns 0. If not all of its terms can be read, it prints the text of the others and the
-// fault, and returns 1.
+// Prints the text of a definition block and returns 0. If not all of its terms can be read, it prints the text of the others and
+// the fault, and returns 1.
 fn print_terms<O: Write, E: Write>(
     alloc: Global,
     block: BlockText,
@@ -59,7 +59,8 @@ fn print_terms<O: Write, E: Write>(
     err: &mut E,
 ) -> io::Result<u8>
     requires { 36 ≤ length bytes.now }
-    ensures { IfOk result (λ status. IsDisassembled block stated.now (map callee_by further.now) name.now bytes.now (O.contents out.old)
+    ensures { IfOk result (λ status. IsDisassembled block stated.now (map callee_by further.now) name.now bytes.now
+        (O.contents out.old)
         (O.contents out.new) (E.contents err.old) (E.contents err.new) status) }
 {
     match text_of_block(alloc, block, stated, further, bytes) {
@@ -88,7 +89,8 @@ fn print_block<O: Write, E: Write>(
     out: &mut O,
     err: &mut E,
 ) -> io::Result<u8>
-    ensures { IfOk result (λ status. IsDisassembled block stated.now (map callee_by further.now) name.now bytes.now (O.contents out.old)
+    ensures { IfOk result (λ status. IsDisassembled block stated.now (map callee_by further.now) name.now bytes.now
+        (O.contents out.old)
         (O.contents out.new) (E.contents err.old) (E.contents err.new) status) }
 {
     if let Err(fault) = check_block(bytes) {
@@ -167,7 +169,8 @@ fn add_files<R: Files + Input, E: Write>(
     all: &mut Vec<Object>,
     err: &mut E,
 ) -> io::Result<u8>
-    ensures { IfOk result (λ status. AddsFiles stated.now (map (λ word. string_bytes word) files.now) (map callee_by all.old.items)
+    ensures { IfOk result (λ status. AddsFiles stated.now (map (λ word. string_bytes word) files.now)
+        (map callee_by all.old.items)
         (map callee_by all.new.items) (E.contents err.old) (E.contents err.new) status) }
 {
     let [file, rest @ ..] = files else {
@@ -238,8 +241,8 @@ fn apart(words: &[String]) -> (&[String], &[String])
     (&words[..count], &words[count..])
 }
 
-/// Prints the text of the definition block in a file, or on standard input. The words are further files, whose methods the block may
-/// call, up to the first word that states a number of arguments.
+/// Prints the text of the definition block in a file, or on standard input. The words are further files, whose methods the block
+/// may call, up to the first word that states a number of arguments.
 pub fn disassemble<R: Files + Input, O: Write, E: Write>(
     rt: &R,
     alloc: Global,

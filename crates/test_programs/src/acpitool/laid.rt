@@ -122,8 +122,8 @@ fn laid(rt: HostRuntime) -> Result<(), Fail> {
     ends(&rt, &["image", "laid_image", "1c000000"], 0, &[LISTED], &[])
 }
 
-// The tables of the image of the folder `apart`, and its RSDP, are in two files. An RSDP doesn't have its own address, so it is the
-// one of the image.
+// The tables of the image of the folder `apart`, and its RSDP, are in two files. An RSDP doesn't have its own address, so it is
+// the one of the image.
 #[test]
 fn laid_apart(rt: HostRuntime) -> Result<(), Fail> {
     make_tables(&rt, "apart")?;
@@ -135,8 +135,8 @@ fn laid_apart(rt: HostRuntime) -> Result<(), Fail> {
     same(&fs::read(&rt, "apart_image.rsdp")?, &RSDP)
 }
 
-// Fails unless a run that lays the folder `beside` for the address 1c000000, with an RSDP at an address, has this status and these
-// texts.
+// Fails unless a run that lays the folder `beside` for the address 1c000000, with an RSDP at an address, has this status and
+// these texts.
 fn lays_beside(
     rt: &HostRuntime,
     rsdp: &str,

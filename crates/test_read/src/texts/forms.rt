@@ -90,8 +90,8 @@ const BY_SIZE: TableForm = TableForm {
     inner: &Inner::Nothing,
 };
 
-// The size is that between the offsets in both fields, 5 - 2, or that up to the end if the second isn't past the first, 5 - 2, too.
-// Without a choice of this size the bytes have no names. The size is 0 if the first is past the end.
+// The size is that between the offsets in both fields, 5 - 2, or that up to the end if the second isn't past the first, 5 - 2,
+// too. Without a choice of this size the bytes have no names. The size is 0 if the first is past the end.
 #[test]
 fn choices_by_size(rt: HostRuntime) -> Result<(), Fail> {
     let between = "\

@@ -3,9 +3,9 @@ use Rattle.acpi_term.proofs.Depths.{first_shallow, others_shallow, element_shall
 use Rattle.acpi_term.specs.Tree.{depth}
 use Rattle.acpi_term.specs.View.{view, views, single, head_of}
 use Rattle.acpi_terms_text.specs.Objects.{inside}
-use Rattle.acpi_asl.specs.Absent.{items, spot_after}
-use Rattle.acpi_asl.specs.declared.absent.Spot.{Spot}
-use Rattle.acpi_asl.proofs.Absents.{going_start, going_on, going_done, items_split, items_past, spots_split, spots_past, added_over}
+use Rattle.acpi_asl.specs.Absent.{items, left_after}
+use Rattle.acpi_asl.specs.declared.place.Place.{Place}
+use Rattle.acpi_asl.proofs.Absents.{going_start, going_on, going_done, items_split, items_past, places_split, places_past, added_over}
 use Rattle.acpi_asl.proofs.absent.+items.Goals as goal
 
 pub push_items-loop-term-init : goal.push_items-loop-term-init
@@ -24,12 +24,12 @@ push_items-loop-term-preserved t c =
     let i = c.loop-term.term-index in
     let left = c.loop-term.left in
     let one = items p left scope (single (view c.term-item.result)) in
-    let rest = ap (λ (s : Spot). one ++ items p s scope (views (drop (i + 1) ts))) (sym c.next-left.ensures) in
+    let rest = ap (λ (at : Place). one ++ items p at scope (views (drop (i + 1) ts))) (sym c.next-left.ensures) in
     let split = items_split p left scope ts i c.term-item.result c.loop-term-test.true c.term-item.is ∙ rest in
-    let spots = ap (λ (s : Spot). spot_after s (views (drop (i + 1) ts))) c.next-left.ensures
-    ∙ sym (spots_split left ts i c.term-item.result c.loop-term-test.true c.term-item.is) ∙ c.loop-term.invariant.1
+    let places = ap (λ (at : Place). left_after at (views (drop (i + 1) ts))) c.next-left.ensures
+    ∙ sym (places_split left ts i c.term-item.result c.loop-term-test.true c.term-item.is) ∙ c.loop-term.invariant.1
     in
-    (going_on _ _ _ _ _ _ c.loop-term.invariant.0 one _ _ _ split c.in_ok-push_items_of.ensures, spots)
+    (going_on _ _ _ _ _ _ c.loop-term.invariant.0 one _ _ _ split c.in_ok-push_items_of.ensures, places)
 
 pub push_items-returns : goal.push_items-returns
 push_items-returns t c =
@@ -39,7 +39,7 @@ push_items-returns t c =
     let past = items_past c.args.pass left c.args.scope.now ts i c.loop-term-test.false in
     record {
       added = going_done _ _ _ _ _ _ c.loop-term.invariant.0 past;
-      spot = sym (spots_past left ts i c.loop-term-test.false) ∙ c.loop-term.invariant.1;
+      place = sym (places_past left ts i c.loop-term-test.false) ∙ c.loop-term.invariant.1;
     }
 
 pub push_items_of-push_items-requires : goal.push_items_of-push_items-requires
@@ -59,4 +59,4 @@ push_items_of-returns t c =
     let p = c.parts_of-parts.result in
     let scope = c.args.scope.now in
     let into : c.inner_scope-inner.result.now ≡ inside scope (head_of p.kind) = search rules in
-    added_over c.args.pass c.args.spot c.spot_in-first.result c.in_ok-left.left scope c.inner_scope-inner.result.now c.args.term.now _ _ p.first.now p.others.now c.parts_of-parts.ensures into c.spot_in-first.ensures c.in_ok-left.ensures.spot _ _ _ _ _ _ _ _ c.in_ok-push_own_items.ensures c.in_ok-left.ensures.added c.in_ok-push_items.ensures.added
+    added_over c.args.pass c.args.place c.place_of-first.result c.in_ok-left.left scope c.inner_scope-inner.result.now c.args.term.now _ _ p.first.now p.others.now c.parts_of-parts.ensures into _ (search rules) c.place_of-first.ensures c.in_ok-left.ensures.place _ _ _ _ _ _ _ _ c.in_ok-push_own_items.ensures c.in_ok-left.ensures.added c.in_ok-push_items.ensures.added

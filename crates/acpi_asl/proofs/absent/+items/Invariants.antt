@@ -1,7 +1,7 @@
 use Rattle.std.proofs.Common.{◌≡◌, ◌+◌, ◌*◌, drop, string_bytes}
 use Rattle.acpi_term.specs.Tree.{depth}
 use Rattle.acpi_term.specs.View.{view, views, single}
-use Rattle.acpi_asl.specs.Absent.{items, spot_after}
+use Rattle.acpi_asl.specs.Absent.{items, left_after}
 use Rattle.acpi_asl.proofs.Absents.{Going}
 use Rattle.acpi_asl.proofs.absent.+items.Given as goal
 
@@ -13,6 +13,6 @@ decreases-push_items_of l = 2 * depth (single (view l.term.now))
 
 abbrev pub invariant-push_items-loop-term : goal.invariant-push_items-loop-term
 invariant-push_items-loop-term l =
-    Going (items l.pass l.left l.scope (views (drop l.term-index l.terms))) (items l.pass l.fn.spot l.scope (views l.terms))
+    Going (items l.pass l.left l.scope (views (drop l.term-index l.terms))) (items l.pass l.fn.place l.scope (views l.terms))
     l.initial.known l.known (string_bytes l.initial.text) (string_bytes l.text)
-    × (spot_after l.left (views (drop l.term-index l.terms)) ≡ spot_after l.fn.spot (views l.terms))
+    × (left_after l.left (views (drop l.term-index l.terms)) ≡ left_after l.fn.place (views l.terms))

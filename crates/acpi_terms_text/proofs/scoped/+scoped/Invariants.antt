@@ -16,4 +16,4 @@ decreases-scoped_box l = 2 * depth (single (view l.term.value)) + 1
 
 abbrev pub invariant-scoped_terms-loop-term : goal.invariant-scoped_terms-loop-term
 invariant-scoped_terms-loop-term l =
-    AreDone l.numbers.stated.now (map callee_by l.numbers.objects.now) l.numbers.own.now l.scope l.term-index l.fn.terms.items l.term-items
+    AreDone l.numbers.stated.now (map callee_by l.numbers.objects.now) (map callee_by l.numbers.differing.now) l.numbers.own.now l.scope l.term-index l.fn.terms.items l.term-items
