@@ -124,6 +124,7 @@ many make references 10000 'a node that refers to another, which is made' "$work
 many show methods 4000 'a method that is shown, and a call of it'
 many disassemble devices 4000 'a device of 47 bytes that is shown as ASL'
 many make asl 4000 'a device of 47 bytes that is made of ASL' "$work/table"
+many disassemble code 4000 'a device of 86 bytes with two methods that is shown as ASL'
 many image image 20000 'a table of an image'
 
 term() {

@@ -5,6 +5,8 @@
 - `methods`: a DSDT of COUNT methods, the last of which calls each.
 - `devices`: a DSDT of COUNT devices, each with an id, a number and resources, in 47 bytes.
 - `asl`: the ASL of COUNT such devices.
+- `code`: a DSDT of COUNT devices, each with two methods, in 86 bytes. The methods name objects in their scope, in the root, and by
+  a path, and call another one.
 - `image`: the image of COUNT tables besides FADT, FACS and DSDT, with the base 0.
 """
 
@@ -84,6 +86,16 @@ def asl(count):
     yield "}\n"
 
 
+def code(count):
+    status = b"\x14\x13_STA\0\xa0\x09\x93VAL0\0\xa4\0\xa4\x0a\x0f"
+    setter = b"\x14\x2bSETX\1\x70\x68VAL0\x70\x72GLOBVAL0\x60GLOB\x70\x5eVAL0\x61\xa4GETVVAL0"
+    body = b"\x08GLOB\0\x14\x08GETV\1\xa4\x68"
+    for index in range(count):
+        objects = b"\x08_UID\x0b" + struct.pack("<H", index) + b"\x08VAL0\0" + status + setter
+        body += b"\x5b\x82\x44\x05" + name_of(index) + objects
+    yield table(b"DSDT", body)
+
+
 def image(count):
     """RSDP, FACS and then the tables, each at a multiple of 64, with the XSDT at the end."""
     def fixed(dsdt):
@@ -106,6 +118,6 @@ def image(count):
     yield table(b"XSDT", struct.pack(f"<{len(entries) - 1}Q", *entries[1:]), 1)
 
 
-kinds = {part.__name__: part for part in (marks, references, methods, devices, asl, image)}
+kinds = {part.__name__: part for part in (marks, references, methods, devices, asl, code, image)}
 for part in kinds[sys.argv[1]](int(sys.argv[2])):
     sys.stdout.buffer.write(part if isinstance(part, bytes) else part.encode())

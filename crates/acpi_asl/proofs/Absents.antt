@@ -1,5 +1,5 @@
 -- Names that become known, and External statements, item by item.
-use Rattle.std.proofs.Common.{◌≡◌, ℕ, zero, suc, ◌+◌, ◌-◌, ◌/◌, ◌<◌, ◌≤◌, ◌&&◌, ◌||◌, min, if◌then◌else◌, Bool, true, false, Option, Some, None, List, [], ◌∷◌, ◌++◌, length, map, get_or, drop, refl, sym, ap, subst, ◌∙◌, append_assoc, arith}
+use Rattle.std.proofs.Common.{◌≡◌, ℕ, zero, suc, ◌+◌, ◌-◌, ◌/◌, ◌<◌, ◌≤◌, ◌==◌, ◌&&◌, ◌||◌, min, if◌then◌else◌, Bool, true, false, Option, Some, None, List, [], ◌∷◌, ◌++◌, length, map, get_or, drop, refl, sym, ap, subst, ◌∙◌, append_assoc, arith}
 use Rattle.std.proofs.lemmas.Bool.{and_parts}
 use Rattle.std.proofs.lemmas.List.{append-nil, length-append}
 use Rattle.acpi_read.proofs.Lines.{count_views}
@@ -14,8 +14,9 @@ use Rattle.acpi_terms_text.specs.Scoped.{any}
 use Rattle.acpi_term.specs.PathText.{name_of_segments}
 use Rattle.acpi_terms_text.proofs.Relative.{one_scope_less}
 use Rattle.acpi_terms_text.proofs.Wholes.{first_false, second_false}
-use Rattle.acpi_asl.specs.Absent.{Known, wanted_in, is_found, absent, Item, made, used, named_by, made_named, made_operand, made_units, made_items, made_around, around_items, scope_items, is_call, method_items, connection_items, other_items, left_after, own_items, items, all_items, uses_name, absent_line, known_by, line, known_after, lines, AreAdded, first_objects, absent_text, are_found, own_found, all_found}
-use Rattle.acpi_asl.specs.Paths.{Wanted, is_wanted, has}
+use Rattle.acpi_asl.specs.Absent.{Known, finds, is_found, absent, Item, made, used, named_by, made_named, made_operand, made_units, made_items, made_around, around_items, scope_items, is_call, method_items, connection_items, other_items, left_after, own_items, items, all_items, uses_name, absent_line, known_by, line, known_after, lines, AreAdded, first_objects, absent_text, are_found, own_found, all_found}
+use Rattle.std.specs.Str.{bytes_eq}
+use Rattle.acpi_asl.specs.Paths.{has}
 use Rattle.acpi_asl.specs.declared.absent.Pass.{Pass}
 use Rattle.acpi_asl.specs.declared.absent.Pass.TheVariants.{Objects, Scopes, Methods, Around, Others}
 use Rattle.acpi_asl.specs.declared.place.Body.TheVariants.{Statements}
@@ -50,6 +51,39 @@ added_both a b old mid new before between after p q = record {
 pub one_added : (i : Item) (is : List Item) (old mid new : Known) (before between after : List ℕ) → AreAdded (i ∷ []) old mid before between
     → AreAdded is mid new between after → AreAdded (i ∷ is) old new before after
 one_added i is = added_both (i ∷ []) is
+
+-- ---- names that find an object
+
+module _ (all : Known) (segment : List ℕ) where
+  here_or_around : (n : ℕ) (scope : List ℕ) → 0 < n → has all (scope ++ segment) ≡ false
+      → finds n all scope segment ≡ finds (n - 1) all (parent scope) segment
+  here_or_around zero scope some none = absurd (omega (arith, some))
+  here_or_around (suc n) scope some none =
+      let less : n ≡ suc n - 1 = omega arith in
+      ap (λ (b : Bool). b || finds n all (parent scope) segment) none ∙ ap (λ (k : ℕ). finds k all (parent scope) segment) less
+
+  -- a scope in which the segment finds nothing, and the one around it
+  pub finds_outward : (scope outer : List ℕ) (whole : Bool) → 4 ≤ length scope → outer ≡ parent scope → has all (scope ++ segment) ≡ false
+      → finds (length scope / 4) all scope segment ≡ whole → finds (length outer / 4) all outer segment ≡ whole
+  finds_outward scope outer whole some is none before =
+      let n = length scope / 4 in
+      ap (λ (k : ℕ). finds k all outer segment) (one_scope_less scope outer is) ∙ ap (λ (s : List ℕ). finds (n - 1) all s segment) is
+      ∙ sym (here_or_around n scope (omega (arith, some)) none) ∙ before
+
+  found_here : (n : ℕ) (scope : List ℕ) → has all (scope ++ segment) ≡ true → finds n all scope segment ≡ true
+  found_here zero scope found = found
+  found_here (suc n) scope found = ap (λ (b : Bool). b || finds n all (parent scope) segment) found
+
+  pub finds_here : (scope : List ℕ) (whole : Bool) → has all (scope ++ segment) ≡ true → finds (length scope / 4) all scope segment ≡ whole
+      → true ≡ whole
+  finds_here scope whole found before = sym (found_here (length scope / 4) scope found) ∙ before
+
+  -- the root is the last scope
+  pub finds_last : (scope : List ℕ) (whole found : Bool) → length scope < 4 → found ≡ has all (scope ++ segment)
+      → finds (length scope / 4) all scope segment ≡ whole → found ≡ whole
+  finds_last scope whole found last is before =
+      let none : 0 ≡ length scope / 4 = omega (arith, last) in
+      is ∙ ap (λ (n : ℕ). finds n all scope segment) none ∙ before
 
 -- ---- the items that are left of a list
 
@@ -225,25 +259,47 @@ found_both all (used scope name kind args ∷ a) b =
 found_joined : (all : Known) (a b : List Item) → are_found all a ≡ true → are_found all b ≡ true → are_found all (a ++ b) ≡ true
 found_joined all a b first second = found_both all a b ∙ and_true (are_found all a) (are_found all b) first second
 
-still_there : (all more : Known) (w : Wanted) → has all w ≡ true → has (all ++ more) w ≡ true
-still_there [] more w is = absurd cc
-still_there (p ∷ all) more w is =
-    elim (is_wanted w p) as (λ b. (b || has all w) ≡ true → (b || has (all ++ more) w) ≡ true) [ true ↦ λ e. refl | false ↦ still_there all more w ] is
+still_there : (all more : Known) (path : List ℕ) → has all path ≡ true → has (all ++ more) path ≡ true
+still_there [] more path is = absurd cc
+still_there (p ∷ all) more path is =
+    elim (bytes_eq p path) as (λ b. (b || has all path) ≡ true → (b || has (all ++ more) path) ≡ true) [
+      | true ↦ λ e. refl
+      | false ↦ still_there all more path
+    ] is
 
 -- what these know is known to those, too
 abbrev AreKnown : Known → Known → Type 0
-AreKnown few all = (w : Wanted) → has few w ≡ true → has all w ≡ true
+AreKnown few all = (path : List ℕ) → has few path ≡ true → has all path ≡ true
+
+one_of : (a b c d : Bool) → (a ≡ true → c ≡ true) → (b ≡ true → d ≡ true) → (a || b) ≡ true → (c || d) ≡ true
+one_of true b c d first second is = ap (λ (t : Bool). t || d) (first refl)
+one_of false b true d first second is = refl
+one_of false b false d first second is = second is
+
+finds_too : (few all : Known) → AreKnown few all → (n : ℕ) (scope segment : List ℕ) → finds n few scope segment ≡ true → finds n all scope segment ≡ true
+finds_too few all known zero scope segment is = known (scope ++ segment) is
+finds_too few all known (suc n) scope segment is =
+    one_of (has few (scope ++ segment)) (finds n few (parent scope) segment) (has all (scope ++ segment)) (finds n all (parent scope) segment)
+    (known (scope ++ segment)) (finds_too few all known n (parent scope) segment) is
+
+found_too : (few all : Known) → AreKnown few all → (scope name : List ℕ) → is_found few scope name ≡ true → is_found all scope name ≡ true
+found_too few all known scope name =
+    elim (length name == 4) as (λ b. (if b then finds (length scope / 4) few scope name else has few (path_in scope name)) ≡ true
+    → (if b then finds (length scope / 4) all scope name else has all (path_in scope name)) ≡ true) [
+      | true ↦ finds_too few all known (length scope / 4) scope name
+      | false ↦ known (path_in scope name)
+    ]
 
 -- Items have no statements, if each name finds an object of those that are known before them.
 found_silent : (few all : Known) (is : List Item) → AreKnown few all → are_found few is ≡ true → lines all is ≡ []
 found_silent few all [] known found = refl
 found_silent few all (made path ∷ is) known found =
-    found_silent few (all ++ path ∷ []) is (λ w h. still_there all (path ∷ []) w (known w h)) found
+    found_silent few (all ++ path ∷ []) is (λ p h. still_there all (path ∷ []) p (known p h)) found
 found_silent few all (used scope name kind args ∷ is) known found =
     let both = and_parts (is_found few scope name) (are_found few is) found in
     let text = absent_line kind args (name_of_segments true (absent scope name)) in
     let more = all ++ absent scope name ∷ [] in
-    ap (λ (b : Bool). (if b then [] else text) ++ lines (if b then all else more) is) (known (wanted_in scope name) both.0)
+    ap (λ (b : Bool). (if b then [] else text) ++ lines (if b then all else more) is) (found_too few all known scope name both.0)
     ∙ found_silent few all is known both.1
 
 -- objects have none

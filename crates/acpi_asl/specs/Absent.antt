@@ -11,7 +11,7 @@ use Rattle.acpi_term.specs.declared.op.Op.TheVariants as ops
 use Rattle.acpi_terms_text.specs.Objects.{inside, made_by, name_at}
 use Rattle.acpi_terms_text.specs.Path.{parent, path_in}
 use Rattle.acpi_asl.specs.Opening.{own}
-use Rattle.acpi_asl.specs.Paths.{Wanted, of_path, of_segment, has}
+use Rattle.acpi_asl.specs.Paths.{has}
 use Rattle.acpi_asl.specs.Place.{place, next, in_braces, is_statement, new_line}
 use Rattle.acpi_asl.specs.declared.absent.Pass.{Pass}
 use Rattle.acpi_asl.specs.declared.absent.Pass.TheVariants.{Objects, Scopes, Methods, Around, Others}
@@ -24,13 +24,15 @@ Known = List (List ℕ)
 
 -- ---- names that find an object
 
--- what a name in a scope has to find (ACPI 6.5, 5.3); four bytes are a segment alone
-abbrev pub wanted_in : List ℕ → List ℕ → Wanted
-wanted_in scope name = if length name == 4 then of_segment scope name else of_path (path_in scope name)
+-- whether a segment finds an object in a scope, or in one of so many scopes around it
+abbrev pub finds : ℕ → Known → List ℕ → List ℕ → Bool
+finds zero all scope segment = has all (scope ++ segment)
+finds (suc levels) all scope segment = has all (scope ++ segment) || finds levels all (parent scope) segment
 
--- whether it finds an object
+-- whether a name in a scope finds an object (ACPI 6.5, 5.3); four bytes are a segment alone
 abbrev pub is_found : Known → List ℕ → List ℕ → Bool
-is_found all scope name = has all (wanted_in scope name)
+is_found all scope name =
+    if length name == 4 then finds (length scope / 4) all scope name else has all (path_in scope name)
 
 -- the path of an object for a name that finds none: a segment alone finds it in the root
 abbrev pub absent : List ℕ → List ℕ → List ℕ

@@ -5,14 +5,14 @@ ghost use Rattle.acpi_term.specs.PathText.{name_of_segments};
 ghost use Rattle.acpi_term.specs.View.{entry_view, head_of, view, views, single};
 ghost use Rattle.acpi_terms_text.specs.Path.{path_in};
 ghost use Rattle.acpi_terms_text.specs.Scoped.{any};
-ghost use Rattle.acpi_asl.specs.Absent.{is_found, absent, made, used, named_by, made_operand};
+ghost use Rattle.acpi_asl.specs.Absent.{finds, is_found, absent, made, used, named_by, made_operand};
 ghost use Rattle.acpi_asl.specs.Absent.{made_units, made_items, made_around, around_items, scope_items, is_call};
 ghost use Rattle.acpi_asl.specs.Absent.{method_items, connection_items, other_items, own_items, items, all_items, left_after};
 ghost use Rattle.acpi_asl.specs.Absent.{uses_name, absent_line, known_by, known_after, AreAdded, first_objects};
 ghost use Rattle.acpi_asl.specs.Absent.{are_found, own_found, all_found, absent_text};
 
 use crate::opening::push_own;
-use crate::paths::{Paths, Wanted};
+use crate::paths::Paths;
 use crate::place::{Place, STATEMENTS, is_statement, next, place_of, push_line};
 use acpi_term::apart::{Kind, parts_of};
 use acpi_term::name_string::NameString;
@@ -39,6 +39,20 @@ enum Pass {
 
 // ---- names that find an object
 
+// Returns whether a segment finds an object in a scope, or in one around it.
+fn finds(known: &Paths, scope: &[u8], segment: &[u8]) -> bool
+    ensures { result ≡ finds (length scope.now / 4) known.now scope.now segment.now }
+{
+    let mut around = scope;
+    'scopes: while around.len() >= 4 {
+        if known.has(around, segment) {
+            return true;
+        }
+        around = parent(around);
+    }
+    known.has(around, segment)
+}
+
 // Returns whether a name in a scope finds an object.
 fn is_found(
     alloc: Global,
@@ -50,10 +64,10 @@ fn is_found(
 {
     let bytes = name.as_bytes();
     if bytes.len() == 4 {
-        return Ok(known.has(Wanted::Segment(scope, bytes)));
+        return Ok(finds(known, scope, bytes));
     }
     let path = path_in(alloc, scope, name)?;
-    Ok(known.has(Wanted::Path(&path)))
+    Ok(known.has(&path, &[]))
 }
 
 // Returns the path of an object for a name that finds none.

@@ -1,35 +1,26 @@
-//! Paths of objects (ACPI 6.5, 5.3), found by their last segment.
+//! Paths of objects (ACPI 6.5, 5.3), found by a key.
 
 ghost use Rattle.std.specs.Prelude.{◌≡◌, ◌++◌, ℕ, List, [], ◌∷◌, map, IfOk, OnOk};
-ghost use Rattle.acpi_asl.specs.Paths.{key, path_of, wanted_by, segment_of, is_wanted, has, IsIndexed};
+ghost use Rattle.acpi_asl.specs.Paths.{next_key, key_from, path_of, has, IsIndexed};
 
-use acpi_terms_text::path::{last_segment, parent};
+use acpi_terms_text::path::is_joined;
 use std::alloc::{AllocError, Global};
 use std::collections::BTreeMap;
 use std::marker::Model;
 use std::mem::replace;
 
-/// What is looked for among paths.
-#[derive(Clone, Copy)]
-pub(crate) enum Wanted<'a> {
-    /// This path.
-    Path(&'a [u8]),
-    /// The path of an object in a scope, or in one around it, with this last segment.
-    Segment(&'a [u8], &'a [u8]),
-}
-
-// A path, and the place of the path before it that has the same last segment.
+// A path, and the place of the path before it that has the same key.
 #[derive(Drop)]
 struct Entry {
     path: Vec<u8>,
     before: Option<usize>,
 }
 
-/// Paths of objects, in the order in which they were added. A look-up compares only those with the last segment that is wanted.
+/// Paths of objects, in the order in which they were added. A look-up compares only those with the key of the path.
 #[derive(Drop)]
 pub(crate) struct Paths {
     all: Vec<Entry>,
-    // The place of the last path with a last segment.
+    // The place of the last path with a key.
     latest: BTreeMap<u32, usize>,
 }
 
@@ -41,36 +32,22 @@ impl Model for Paths {
     ghost invariant = { λ paths. IsIndexed paths.latest paths.all.items };
 }
 
-// Returns the number by which a segment is found.
-fn key(segment: &[u8]) -> u32
-    ensures { result ≡ key segment.now }
+// Returns the key of bytes and a further one.
+fn next_key(key: u32, byte: u8) -> u32
+    ensures { result ≡ next_key key byte }
 {
-    match segment {
-        [a, b, c, d] => u32::from_le_bytes([*a, *b, *c, *d]),
-        _ => 0,
-    }
+    ((u64::from(key) * 31 + u64::from(byte)) % 0x1_0000_0000) as u32
 }
 
-// Returns the last segment of what is wanted.
-fn segment_of<'a>(wanted: Wanted<'a>) -> &'a [u8]
-    ensures { result.now ≡ segment_of (wanted_by wanted.entry) }
+// Returns the key of a path: this is the key of the bytes before these.
+fn key_from(key: u32, path: &[u8]) -> u32
+    ensures { result ≡ key_from key path.now }
 {
-    match wanted {
-        Wanted::Path(path) => last_segment(path),
-        Wanted::Segment(_, segment) => segment,
+    let mut key = key;
+    'bytes: for byte in path {
+        key = next_key(key, *byte);
     }
-}
-
-// Returns whether a path is what is wanted.
-fn is_wanted(wanted: Wanted<'_>, path: &[u8]) -> bool
-    ensures { result ≡ is_wanted (wanted_by wanted.entry) path.now }
-{
-    match wanted {
-        Wanted::Path(other) => path == other,
-        Wanted::Segment(scope, segment) => {
-            last_segment(path) == segment && scope.starts_with(parent(path))
-        }
-    }
+    key
 }
 
 impl Paths {
@@ -91,7 +68,7 @@ impl Paths {
             mut all,
             mut latest,
         } = self;
-        let key = key(last_segment(&path));
+        let key = key_from(0, &path);
         let before = latest.get(&key).copied();
         latest.insert(key, all.len())?;
         all.push(Entry { path, before })?;
@@ -107,14 +84,15 @@ impl Paths {
         Ok(())
     }
 
-    /// Returns whether one of the paths is what is wanted.
-    pub fn has(&self, wanted: Wanted<'_>) -> bool
-        ensures { result ≡ has self.now (wanted_by wanted.entry) }
+    /// Returns whether one of the paths is this one, which is given in two parts.
+    pub fn has(&self, front: &[u8], rest: &[u8]) -> bool
+        ensures { result ≡ has self.now (front.now ++ rest.now) }
     {
-        let mut next = self.latest.get(&key(segment_of(wanted))).copied();
+        let key = key_from(key_from(0, front), rest);
+        let mut next = self.latest.get(&key).copied();
         'paths: while let Some(place) = next {
             let entry = &self.all[place];
-            if is_wanted(wanted, &entry.path) {
+            if is_joined(front, rest, &entry.path) {
                 return true;
             }
             next = entry.before;

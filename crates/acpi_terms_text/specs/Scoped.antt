@@ -5,8 +5,9 @@ use Rattle.std.specs.List.{starts_with}
 use Rattle.std.specs.Option.{option_map}
 use Rattle.std.specs.Str.{bytes_eq}
 use Rattle.acpi_read.specs.Terms.{AreReadIn, IsUnreadIn}
-use Rattle.acpi_term.specs.Arity.{arity_above, grammar_by, with_all}
+use Rattle.acpi_term.specs.Arity.{arity_above, grammar_by, is_stated, with_all}
 use Rattle.acpi_term.specs.Carried.{AreCarried}
+use Rattle.acpi_term.specs.Name.{without_parents}
 use Rattle.acpi_term.specs.PathText.{is_rooted, name_of_segments}
 use Rattle.acpi_term.specs.Spelling.{spelling}
 use Rattle.acpi_term.specs.Tree.{Head, call, def_scope, def_device, def_method, def_power_res, def_leveled_method}
@@ -97,9 +98,12 @@ abbrev pub is_other : Option ℕ → ℕ → Bool
 is_other None n = false
 is_other (Some m) n = not (m == n)
 
--- whether such a name in a scope is that of an object with another number of arguments than the name has in a list
+-- whether such a name in a scope is that of an object with another number of arguments than the name has in a list; what is after
+-- `^` has a number there, too, if it is the end of an object's path
 abbrev pub has_other : List (List ℕ × ℕ) → List Callee → List ℕ → List ℕ → Bool
-has_other own all scope name = is_relative name && is_other (args_at (path_in scope name) all) (arity_above own name)
+has_other own all scope name =
+    is_relative name && is_stated own (without_parents name)
+    && is_other (args_at (path_in scope name) all) (arity_above own name)
 
 -- whether a head is one, or has bytes that aren't read
 abbrev pub may_be_other : List (List ℕ × ℕ) → List Callee → List ℕ → Head → Bool

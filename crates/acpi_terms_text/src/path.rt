@@ -47,8 +47,8 @@ pub fn path_in(alloc: Global, scope: &[u8], name: &NameString) -> Result<Vec<u8>
     of_bytes(alloc, scope, name.as_bytes())
 }
 
-// Returns whether a path is this one, which is given in two parts.
-fn is_joined(front: &[u8], rest: &[u8], path: &[u8]) -> bool
+/// Returns whether a path is this one, which is given in two parts.
+pub fn is_joined(front: &[u8], rest: &[u8], path: &[u8]) -> bool
     ensures { result ≡ bytes_eq path.now (front.now ++ rest.now) }
 {
     match path.strip_prefix(front) {

@@ -1,6 +1,6 @@
 //! Calls by the search rules of names (ACPI 6.5, 5.3).
 
-ghost use Rattle.std.specs.Prelude.{◌≡◌, ◌++◌, ◌-◌, ◌/◌, ◌||◌, ◌⊎◌, OnOk, IfOk, IfErr, false, [], ◌∷◌, map, length};
+ghost use Rattle.std.specs.Prelude.{ℕ, ◌≡◌, ◌++◌, ◌-◌, ◌/◌, ◌||◌, ◌⊎◌, OnOk, IfOk, IfErr, false, [], ◌∷◌, map, length};
 ghost use Rattle.std.specs.Option.{option_map};
 ghost use Rattle.std.specs.Str.{bytes_eq};
 ghost use Rattle.acpi_term.specs.Arity.{arity, with_all};
@@ -22,7 +22,7 @@ use crate::path::{is_path_in, joined, last_segment, parent, path_in};
 use acpi_base::error::Error;
 use acpi_read::terms::standard_terms;
 use acpi_term::apart::{Kind, parts_of};
-use acpi_term::name_string::{Arities, NameString, name_of};
+use acpi_term::name_string::{Arities, NameString, name_of, without_parents};
 use acpi_term::read_error::ReadError;
 use acpi_term::segment::is_segment;
 use acpi_term::spell::spell;
@@ -226,6 +226,7 @@ fn has_other(own: &Arities, objects: &[Object], scope: &[u8], name: &[u8]) -> bo
     ensures { result ≡ has_other own.now (map callee_by objects.now) scope.now name.now }
 {
     is_relative(name)
+        && own.states(without_parents(name))
         && match args_at(scope, name, objects) {
             Some(args) => args != own.count_above(name),
             None => false,
@@ -303,8 +304,8 @@ fn has(sought: Sought<'_>, term: &Term) -> bool
 }
 
 // Returns whether a body has this segment as a name.
-fn names_segment(segment: &[u8], args: u8, body: &[Term]) -> bool
-    ensures { result ≡ have_name (views body.now) (counted args (as_segment segment.now)) }
+fn names_segment(segment: &[u8], body: &[Term]) -> bool
+    ensures { (args : ℕ) → result ≡ have_name (views body.now) (counted args (as_segment segment.now)) }
 {
     match segment {
         [a, b, c, d] => is_segment(*a, *b, *c, *d) && any(Sought::Name(segment), body),
@@ -316,7 +317,7 @@ fn names_segment(segment: &[u8], args: u8, body: &[Term]) -> bool
 fn names_here(scope: &[u8], body: &[Term], object: &Object) -> bool
     ensures { result ≡ have_name (views body.now) (here scope.now (callee_by object.now)) }
 {
-    is_in(scope, object) && names_segment(last_segment(object.name.as_bytes()), object.args, body)
+    is_in(scope, object) && names_segment(last_segment(object.name.as_bytes()), body)
 }
 
 // Returns whether it has that of one of them.
