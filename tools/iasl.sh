@@ -1,6 +1,6 @@
 #!/bin/sh
 # Disassembles with ACPICA's iasl each table that the example writes for both of its machines, its definition blocks with their
-# AML, and prints a line for each. It compares the fields that iasl writes with those that `acpitool show` prints, as
+# AML, and prints a line for each. It compares the fields that iasl writes with those that `acpitool show --bytes` prints, as
 # iasl_fields.py says. With a folder as its argument, the tables are the files of that folder. Without one they are those of the
 # example, and then the fields of crates/acpitool/data are compared, too: these tables have each structure, with values that iasl
 # needn't accept. The programs and what they stand on are proved first. Not a part of the gate. It goes over all tables. Its last
@@ -70,7 +70,7 @@ different=0
 # Compares the fields in a table's text with those that acpitool shows, and prints what differs. A table with a fault is shown,
 # too.
 compare_fields() {
-    "$tool" show "$1" >"$work/shown" || [ -s "$work/shown" ] || {
+    "$tool" show --bytes "$1" >"$work/shown" || [ -s "$work/shown" ] || {
         echo "${1##*/}: acpitool doesn't show it" >&2
         different=$((different + 1))
         return 0

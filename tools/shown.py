@@ -48,11 +48,21 @@ def line_of(text):
     return None
 
 
+# The header of a definition block that is shown as ASL, of which each line is a comment, and the ASL.
+BLOCK = re.compile(r"(?m)^((?:// .*\n)+)(?:/\*= .*\n)?DefinitionBlock .*\n\{\n(?:.*\n)*?\}\n")
+HEADER = re.compile(r"(?m)^// (.*\n)((?://   .*\n)+)\Z")
+
+
+def header_of(block):
+    """Returns the text of a block's header without the marks of comments. Comments before it, as the name of a file, stay."""
+    return HEADER.sub(lambda header: header[1] + re.sub("(?m)^// ", "", header[2]), block[1])
+
+
 def tables_of(text):
     """Returns the tables of a text, in order. A table's name is the first line that is no comment, or such a line after comments.
-    Comments are the names of files and the terms of definition blocks."""
+    Comments are the names of files and the terms of definition blocks. Of a definition block as ASL the header is a table."""
     tables, above, is_name = [], [], True
-    for it in text.splitlines():
+    for it in BLOCK.sub(header_of, text).splitlines():
         if it.startswith("// "):
             is_name = True
         elif is_name:

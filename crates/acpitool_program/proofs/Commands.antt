@@ -3,11 +3,12 @@ use Rattle.std.proofs.Common.{◌≡◌, ◌⊎◌, ℕ, Bool, true, false, map,
 use Rattle.std.proofs.lemmas.List.{length-map}
 use Rattle.acpitool_program.proofs.Rests.{same_addresses, same_rest}
 use Rattle.acpitool_program.proofs.Verbs.{heads, tails, same_verb, no_version, no_help, asks_no_help}
-use Rattle.acpitool_program.specs.Command.{begins_with_json, begins_with_bare, begins_with_dot, after_option, files_in, forces, unforced, AreImage, AreUnpack, AreLay, IsRest, AreAfter, IsHelp, BeginsWithHelp, AsksForHelp, Asks}
-use Rattle.acpitool_program.specs.Laws.{Content, option_if, rsdp_if, content, AskForOne}
+use Rattle.acpitool_program.specs.Command.{begins_with_json, style_of, begins_with_dot, after_option, files_in, forces, unforced, AreImage, AreUnpack, AreLay, IsRest, AreAfter, IsHelp, BeginsWithHelp, AsksForHelp, Asks}
+use Rattle.acpitool_program.specs.Laws.{Content, option_if, style_option, rsdp_if, content, AskForOne}
 use Rattle.acpitool_program.specs.declared.command.Command.{Command}
 use Rattle.acpitool_program.specs.declared.command.Command.TheVariants.{Help, Version, Show, Check, Image, Make, Template}
 use Rattle.acpitool_program.specs.declared.command.Command.TheVariants.{Disassemble, Names, Unpack, Cpio, Lay, Loader, Diff, Json, Tree}
+use Rattle.acpitool_program.specs.declared.command.Style.{Style}
 use Rattle.acpitool_program.specs.declared.command.Verb.{Verb}
 use Rattle.acpitool_program.specs.declared.command.Verb.TheVariants as verbs
 
@@ -39,7 +40,7 @@ abbrev IsOf : Verb → List (List ℕ) → Content → Type 0
 IsOf verbs.Show more k =
     ((begins_with_json more ≡ false) × (files : List (List ℕ)) × (numbers : List (List ℕ))
     × (after_option verbs.Show more ≡ files ++ numbers) × (length files ≡ files_in (after_option verbs.Show more))
-    × (k ≡ (codes "show", files, numbers, 0, option_if (begins_with_bare more) (codes "--no-offsets"))))
+    × (k ≡ (codes "show", files, numbers, 0, style_option (style_of more))))
     ⊎ ((begins_with_json more ≡ true) × (k ≡ (codes "show", after_option verbs.Show more, [], 0, codes "--json")))
 IsOf verbs.Check more k =
     k ≡ (codes "check", after_option verbs.Check more, [], 0, option_if (begins_with_json more) (codes "--json"))
@@ -131,7 +132,7 @@ AreOf words k =
 are_of : (words : List (List ℕ)) (command : Command) → Asks words command → AreOf words (content command)
 are_of words Help help = inl (refl, help)
 are_of words Version first = inr (inl (refl, first.0, first.1))
-are_of words (Show bare files numbers) all = inr (inr (record {
+are_of words (Show style files numbers) all = inr (inr (record {
   verb = verbs.Show;
   more = all.0;
   after = all.1;
@@ -142,12 +143,12 @@ are_of words (Show bare files numbers) all = inr (inr (record {
     all.4,
     length-map files.now (λ word. string_bytes word) ∙ all.5,
     ap
-        (λ (b : Bool). (
+        (λ (s : Style). (
           codes "show",
           map (λ word. string_bytes word) files.now,
           map (λ word. string_bytes word) numbers.now,
           0,
-          option_if b (codes "--no-offsets"),
+          style_option s,
         ))
         all.3,
   );

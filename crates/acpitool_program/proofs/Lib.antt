@@ -3,6 +3,8 @@ mod Archives
 mod Blocks
 mod Broken
 mod Commands
+mod Furthers
+mod Headers
 mod Judged
 mod Kept
 mod Layings

@@ -16,6 +16,7 @@ use Rattle.acpitool_program.specs.Making.{MakesOf, MakesWord, Makes}
 use Rattle.acpitool_program.specs.Outcome.{Outcome, Printed}
 use Rattle.acpi_forms.specs.Known.{is_known}
 use Rattle.acpi_terms_text.specs.Objects.{Callee}
+use Rattle.acpitool_program.specs.declared.command.Style.{Style}
 use Rattle.acpitool_program.specs.Program.{Ended, IsDone, IsShown, AreListed, IsBlockAmong, IsNoneAmong, IsBlockShown, NotStated, names_text, IsTemplated}
 use Rattle.acpitool_program.specs.declared.command.Command.{Command}
 use Rattle.acpitool_program.specs.declared.command.Command.TheVariants.{Help, Version, Show, Check, Image, Make, Template}
@@ -36,18 +37,24 @@ unstated_kept numbers o o' o'' e e' s kept not = record {
   silent = keeps_kept o o' o'' not.silent kept;
 }
 
-shown_kept : (bare : Bool) (files numbers : List (List ℕ)) (o o' o'' e e' : Option (List ℕ)) (s : ℕ) → Keeps o' o''
-    → IsShown bare files numbers o o' e e' s → IsShown bare files numbers o o'' e e' s
-shown_kept bare files numbers o o' o'' e e' s kept (inl all) = inl (record {
+shown_kept : (style : Style) (files numbers : List (List ℕ)) (o o' o'' e e' : Option (List ℕ)) (s : ℕ) → Keeps o' o''
+    → IsShown style files numbers o o' e e' s → IsShown style files numbers o o'' e e' s
+shown_kept style files numbers o o' o'' e e' s kept (inl all) = inl (record {
   all = all.all;
   stated = all.stated;
-  printed = record {
-    outcomes = all.printed.outcomes;
-    are = all.printed.are;
-    printed = printed_kept (shows bare all.all) all.printed.outcomes o o' o'' e e' s kept all.printed.printed;
-  };
+  gathered = all.gathered;
+  are = all.are;
+  hold = all.hold;
+  further = all.further;
+  named = all.named;
+  shown = all.shown;
+  of = all.of;
+  show = all.show;
+  wrote = appends_kept o o' o'' _ all.wrote kept;
+  complained = all.complained;
+  is = all.is;
 })
-shown_kept bare files numbers o o' o'' e e' s kept (inr not) = inr (unstated_kept numbers o o' o'' e e' s kept not)
+shown_kept style files numbers o o' o'' e e' s kept (inr not) = inr (unstated_kept numbers o o' o'' e e' s kept not)
 
 listed_kept : (files : List (List ℕ)) (o o' o'' e e' : Option (List ℕ)) (s : ℕ) → Keeps o' o''
     → AreListed files o o' e e' s → AreListed files o o'' e e' s
@@ -229,7 +236,7 @@ templated_kept false signature o o' o'' e e' s kept done = (done.0, keeps_kept o
 done_kept : (o o' o'' e e' : Option (List ℕ)) (s : ℕ) (command : Command) → Keeps o' o'' → IsDone command o o' e e' s → IsDone command o o'' e e' s
 done_kept o o' o'' e e' s Help kept done = (done.0, done.1, appends_kept o o' o'' _ done.2 kept, done.3)
 done_kept o o' o'' e e' s Version kept done = (done.0, appends_kept o o' o'' _ done.1 kept, done.2)
-done_kept o o' o'' e e' s (Show bare files numbers) kept done = shown_kept bare _ _ o o' o'' e e' s kept done
+done_kept o o' o'' e e' s (Show style files numbers) kept done = shown_kept style _ _ o o' o'' e e' s kept done
 done_kept o o' o'' e e' s (Json files) kept done = listed_kept _ o o' o'' e e' s kept done
 done_kept o o' o'' e e' s (Check json files) kept done = checked_kept json _ o o' o'' e e' s kept done
 done_kept o o' o'' e e' s (Image json file base) kept done = image_kept json file.now base o o' o'' e e' s kept done

@@ -83,7 +83,7 @@ asked : (words : List (List ℕ)) (command : Command) → Asks words command →
 asked words Help (inl first) = inl first
 asked words Help (inr after) = inr (inr (record { verb = after.verb; more = after.more; is = after.is; are = inl (after.option, after.first, after.asks) }))
 asked words Version first = inr (inl first)
-asked words (Show bare files numbers) all = inr (inr (record { verb = verbs.Show; more = all.0; is = all.1.0; are = inr (all.1.1, all.6) }))
+asked words (Show style files numbers) all = inr (inr (record { verb = verbs.Show; more = all.0; is = all.1.0; are = inr (all.1.1, all.6) }))
 asked words (Json files) all = inr (inr (record { verb = verbs.Show; more = all.0; is = all.1.0; are = inr (all.1.1, all.4) }))
 asked words (Check json files) all = inr (inr (record { verb = verbs.Check; more = all.0; is = all.1.0; are = inr (all.1.1, all.4) }))
 asked words (Image json file base) all =

@@ -1,20 +1,20 @@
 -- What `check` prints.
-use Rattle.std.specs.Prelude.{◌≡◌, ℕ, nat_lt, max, Bool, true, false, List, [], ◌++◌, Option, Some, length}
+use Rattle.std.specs.Prelude.{◌≡◌, ℕ, max, Bool, true, false, List, [], ◌++◌, Option, Some}
 use Rattle.std.specs.Io.KnownBytes.{Appends}
 use Rattle.acpi_json.specs.Array.{array}
 use Rattle.acpitool_program.specs.Job.{checks}
 use Rattle.acpitool_program.specs.Machine.{machine_text, line_status}
-use Rattle.acpitool_program.specs.Outcome.{Outcome, AreTrueOutcomes, outputs, complaints, worst, checked_in, AreOfEach, AreOfWord}
+use Rattle.acpitool_program.specs.Outcome.{Outcome, AreTrueOutcomes, outputs, complaints, worst, kept_in, AreOfEach, AreOfWord}
 
 -- Each file has its outcomes, which were printed in order. After them came the rules on several tables that the tables break that
 -- were checked. The status is the greatest.
 pub record AreCheckedAs (json : Bool) (files : List (List ℕ)) (out out' err err' : Option (List ℕ)) (status : ℕ) : Type 0 where
   pub outcomes : List Outcome
-  pub are : AreOfEach (AreOfWord (nat_lt 1 (length files))) files outcomes
+  pub are : AreOfEach AreOfWord files outcomes
   pub hold : AreTrueOutcomes (checks json) outcomes
-  pub wrote : Appends out out' (outputs outcomes ++ machine_text json (checked_in outcomes))
+  pub wrote : Appends out out' (outputs outcomes ++ machine_text json (kept_in outcomes))
   pub complained : Appends err err' (complaints outcomes)
-  pub is : status ≡ max (worst outcomes) (line_status (machine_text json (checked_in outcomes)))
+  pub is : status ≡ max (worst outcomes) (line_status (machine_text json (kept_in outcomes)))
 
 -- what is printed are the objects of an array
 pub record AreCheckedAsJson (files : List (List ℕ)) (out out' err err' : Option (List ℕ)) (status : ℕ) : Type 0 where

@@ -13,6 +13,8 @@ use Rattle.acpitool_program.specs.declared.command.Command.TheVariants.{Disassem
 use Rattle.acpitool_program.specs.declared.command.Command.TheVariants.{Tree}
 use Rattle.acpitool_program.specs.declared.command.Misstated.{Misstated}
 use Rattle.acpitool_program.specs.declared.command.Misstated.TheVariants as misstated
+use Rattle.acpitool_program.specs.declared.command.Style.{Style}
+use Rattle.acpitool_program.specs.declared.command.Style.TheVariants.{Usual, Bare, Bytes}
 use Rattle.acpitool_program.specs.declared.command.Verb.{Verb}
 use Rattle.acpitool_program.specs.declared.command.Verb.TheVariants as verbs
 use Rattle.acpitool_program.specs.declared.command.Wrong.{Wrong}
@@ -44,6 +46,10 @@ is_json word = bytes_eq word (codes "--json")
 abbrev pub is_bare : List ℕ → Bool
 is_bare word = bytes_eq word (codes "--no-offsets")
 
+-- the option of `show` that asks for the bytes of definition blocks
+abbrev pub is_bytes : List ℕ → Bool
+is_bytes word = bytes_eq word (codes "--bytes")
+
 -- the option of `tree` that asks for a graph
 abbrev pub is_dot : List ℕ → Bool
 is_dot word = bytes_eq word (codes "--dot")
@@ -54,7 +60,7 @@ is_rsdp word = bytes_eq word (codes "--rsdp")
 
 -- whether a command takes an option right after its own word
 abbrev pub leads : Verb → List ℕ → Bool
-leads verbs.Show word = is_json word || is_bare word
+leads verbs.Show word = is_json word || is_bare word || is_bytes word
 leads verbs.Check word = is_json word
 leads verbs.Image word = is_json word
 leads verbs.Names word = is_json word
@@ -67,10 +73,6 @@ abbrev pub begins_with_json : List (List ℕ) → Bool
 begins_with_json [] = false
 begins_with_json (word ∷ words) = is_json word
 
-abbrev pub begins_with_bare : List (List ℕ) → Bool
-begins_with_bare [] = false
-begins_with_bare (word ∷ words) = is_bare word
-
 abbrev pub begins_with_dot : List (List ℕ) → Bool
 begins_with_dot [] = false
 begins_with_dot (word ∷ words) = is_dot word
@@ -82,6 +84,11 @@ begins_with_rsdp (word ∷ words) = is_rsdp word
 abbrev pub begins_with_option : Verb → List (List ℕ) → Bool
 begins_with_option verb [] = false
 begins_with_option verb (word ∷ words) = leads verb word
+
+-- how `show` shows tables, by the first word after it
+abbrev pub style_of : List (List ℕ) → Style
+style_of [] = Usual
+style_of (word ∷ words) = if is_bare word then Bare else (if is_bytes word then Bytes else Usual)
 
 -- the words after it, or all words
 abbrev pub after_option : Verb → List (List ℕ) → List (List ℕ)
@@ -217,11 +224,11 @@ AreLay more folder file base = (word : List ℕ) × (more ≡ folder ∷ file �
 abbrev pub Asks : List (List ℕ) → Command → Type 0
 Asks words Help = BeginsWithHelp words ⊎ AsksForHelp words
 Asks words Version = (more : List (List ℕ)) × (words ≡ codes "--version" ∷ more)
-Asks words (Show bare files numbers) =
+Asks words (Show style files numbers) =
     (more : List (List ℕ))
     × AreAfter verbs.Show words more
     × (begins_with_json more ≡ false)
-    × (bare ≡ begins_with_bare more)
+    × (style ≡ style_of more)
     × (after_option verbs.Show more
     ≡ map (λ word. string_bytes word) files.now ++ map (λ word. string_bytes word) numbers.now)
     × (length files.now ≡ files_in (after_option verbs.Show more))

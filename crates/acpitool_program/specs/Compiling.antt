@@ -1,5 +1,5 @@
 -- What is printed when a text of ASL is made into a definition block.
-use Rattle.std.specs.Prelude.{◌≡◌, ℕ, List, [], ◌∷◌, ◌++◌, Option, Some, None, codes}
+use Rattle.std.specs.Prelude.{ℕ, List, [], ◌∷◌, ◌++◌, Option, Some, None, codes}
 use Rattle.std.specs.Io.KnownBytes.{Keeps, Appends}
 use Rattle.acpi_compile.specs.Compiled.{IsCompiled}
 use Rattle.acpi_compile.specs.Fault.{explained}

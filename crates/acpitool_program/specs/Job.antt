@@ -1,16 +1,23 @@
 -- What is done with each table of a file.
 use Rattle.std.specs.Prelude.{ℕ, Bool, List}
+use Rattle.acpi_terms_text.specs.Objects.{Callee}
+use Rattle.acpitool_program.specs.declared.command.Style.{Style}
 use Rattle.acpitool_program.specs.declared.job.Job.{Job as JobData}
 use Rattle.acpitool_program.specs.declared.job.Job.TheVariants as jobs
 
--- It is shown, without the offsets of its lines or with them, and names take the stated numbers of arguments; it is checked, and
--- what is found is JSON or text; or it is listed as JSON.
+-- What is done with a table:
+-- - it is gathered, to be shown after the tables of all files are;
+-- - it is shown, as the option of `show` says: these files were given and these numbers of arguments stated, and further blocks
+--   have these objects;
+-- - it is checked, and what is found is JSON or text;
+-- - it is listed as JSON.
 pub data Job : Type 0 where
-  shows : Bool → List (List ℕ × ℕ) → Job
+  gathers : Job
+  shows : Style → List (List ℕ) → List (List ℕ × ℕ) → List Callee → Job
   checks : Bool → Job
   lists : Job
 
 abbrev pub asked : JobData → Job
-asked (jobs.Shows showing) = shows showing.now.bare showing.now.stated.now
+asked jobs.Gathers = gathers
 asked (jobs.Checks json) = checks json
 asked jobs.Lists = lists

@@ -5,6 +5,8 @@ use Rattle.acpitool_program.specs.declared.command.Command.{Command}
 use Rattle.acpitool_program.specs.declared.command.Command.TheVariants.{Help, Version, Show, Check, Image, Make, Template}
 use Rattle.acpitool_program.specs.declared.command.Command.TheVariants.{Disassemble, Names, Unpack, Cpio, Lay, Loader, Diff, Json}
 use Rattle.acpitool_program.specs.declared.command.Command.TheVariants.{Tree}
+use Rattle.acpitool_program.specs.declared.command.Style.{Style}
+use Rattle.acpitool_program.specs.declared.command.Style.TheVariants.{Usual, Bare, Bytes}
 use Rattle.acpitool_program.specs.declared.command.Wrong.{Wrong}
 
 -- what a command contains: its word, its files, folders or signature, the words that state numbers, an address, and its option,
@@ -17,6 +19,12 @@ abbrev pub option_if : Bool → List ℕ → List ℕ
 option_if true option = option
 option_if false option = []
 
+-- the option of `show`, if there is one
+abbrev pub style_option : Style → List ℕ
+style_option Usual = []
+style_option Bare = codes "--no-offsets"
+style_option Bytes = codes "--bytes"
+
 -- the option before the address of an RSDP, and the address after its bytes
 abbrev pub rsdp_if : Option ℕ → List ℕ
 rsdp_if (Some rsdp) = codes "--rsdp" ++ rsdp ∷ []
@@ -25,12 +33,12 @@ rsdp_if None = []
 abbrev pub content : Command → Content
 content Help = (codes "help", [], [], 0, [])
 content Version = (codes "--version", [], [], 0, [])
-content (Show bare files numbers) = (
+content (Show style files numbers) = (
   codes "show",
   map (λ word. string_bytes word) files.now,
   map (λ word. string_bytes word) numbers.now,
   0,
-  option_if bare (codes "--no-offsets"),
+  style_option style,
 )
 content (Json files) = (codes "show", map (λ word. string_bytes word) files.now, [], 0, codes "--json")
 content (Check json files) =

@@ -4,6 +4,7 @@ pub mod Offsets
 pub mod Text
 pub mod Structures
 pub mod Terms
+pub mod Shown
 pub mod Command
 pub mod Image
 pub mod Listing

@@ -1,6 +1,7 @@
 -- What a run prints.
 use Rattle.std.specs.Prelude.{◌≡◌, ◌≢◌, ◌⊎◌, ℕ, max, Bool, true, false, List, [], ◌∷◌, ◌++◌, Option, Some, None, Ok, Err, map}
-use Rattle.std.specs.Prelude.{codes}
+use Rattle.std.specs.Prelude.{codes, not}
+use Rattle.std.specs.Str.{bytes_eq}
 use Rattle.std.specs.Io.KnownBytes.{Appends}
 use Rattle.acpi_dump.specs.Dump.{is_dump, tables_of}
 use Rattle.acpi_dump.specs.Fault.{text_of}
@@ -16,18 +17,19 @@ use Rattle.acpi_tree.specs.Image.{title}
 use Rattle.acpitool_program.specs.Checked.{AreFindings, printed_findings, finding_status}
 use Rattle.acpitool_program.specs.Fault.{line_of}
 use Rattle.acpitool_program.specs.Image.{IsFoundImage}
-use Rattle.acpitool_program.specs.Job.{Job, shows, checks, lists}
+use Rattle.acpitool_program.specs.Job.{Job, gathers, shows, checks, lists}
 use Rattle.acpitool_program.specs.Listing.{IsNoImage, why}
 use Rattle.acpitool_program.specs.Object.{IsObject}
 use Rattle.acpitool_program.specs.Placed.{IsPlaced}
+use Rattle.acpitool_program.specs.Shown.{IsShownAs, IsShownFault}
 use Rattle.acpitool_program.specs.Structures.{HasFault}
-use Rattle.acpitool_program.specs.Terms.{IsAfter}
-use Rattle.acpitool_program.specs.Text.{IsTextAs, IsTextFault}
+use Rattle.acpitool_program.specs.Text.{IsKind, IsTextFault}
 use Rattle.acpitool_program.specs.declared.fault.Fault.{Fault}
 use Rattle.acpitool_program.specs.declared.image.NoImage.{NoImage}
 
 -- What comes of a table or of a file that has a name:
--- - shown: the text of its bytes, after its name if it is one of several, and before further lines, and a fault of its
+-- - gathered: its bytes are what their signature says, and it is kept;
+-- - shown: its text, after its name if that isn't the only word, and before further lines, and a fault of its terms or of its
 --   structures, if there is one;
 -- - checked: the rules that its bytes break, as JSON or as text, and a fault of its structures, if there is one;
 -- - listed: the object of its bytes, which has a line, and a fault of its structures, if there is one;
@@ -36,6 +38,7 @@ use Rattle.acpitool_program.specs.declared.image.NoImage.{NoImage}
 -- - imageless: its bytes are no image from a base on;
 -- - unread: it can't be read, and the system says why.
 pub data Outcome : Type 0 where
+  gathered : List ℕ → List ℕ → Outcome
   shown : Bool → List ℕ → List ℕ → List ℕ → List ℕ → Option Fault → Outcome
   checked : Bool → List ℕ → List ℕ → List Finding → Option Fault → Outcome
   listed : List ℕ → List ℕ → List ℕ → Option Fault → Outcome
@@ -44,14 +47,20 @@ pub data Outcome : Type 0 where
   imageless : List ℕ → ℕ → List ℕ → NoImage → Outcome
   unread : List ℕ → List ℕ → Outcome
 
--- the lines before a text: its name as a comment, if it is one of several
+-- whether the table of this name is all that was asked for: the name is the only word
+abbrev pub is_alone : List (List ℕ) → List ℕ → Bool
+is_alone (file ∷ []) name = bytes_eq file name
+is_alone files name = false
+
+-- the lines before a text: its name as a comment, if there is more
 abbrev pub heading : Bool → List ℕ → List ℕ
 heading true name = comment name
 heading false name = []
 
 -- what goes to standard output
 abbrev pub output : Outcome → List ℕ
-output (shown several name bytes text after fault) = heading several name ++ text ++ after
+output (gathered name bytes) = []
+output (shown more name bytes text after fault) = heading more name ++ text ++ after
 output (checked json name bytes findings fault) = printed_findings json name bytes findings
 output (listed name bytes object fault) = object ++ 10 ∷ []
 output (refused name bytes fault) = []
@@ -66,7 +75,8 @@ fault_line name (Some fault) = name ++ codes ": " ++ line_of fault ++ 10 ∷ []
 
 -- what goes to standard error
 abbrev pub complaint : Outcome → List ℕ
-complaint (shown several name bytes text after fault) = fault_line name fault
+complaint (gathered name bytes) = []
+complaint (shown more name bytes text after fault) = fault_line name fault
 complaint (checked json name bytes findings fault) = fault_line name fault
 complaint (listed name bytes object fault) = fault_line name fault
 complaint (refused name bytes fault) = fault_line name (Some fault)
@@ -79,7 +89,8 @@ fault_status None = 0
 fault_status (Some fault) = 1
 
 abbrev pub status : Outcome → ℕ
-status (shown several name bytes text after fault) = fault_status fault
+status (gathered name bytes) = 0
+status (shown more name bytes text after fault) = fault_status fault
 status (checked json name bytes findings fault) = max (finding_status findings) (fault_status fault)
 status (listed name bytes object fault) = fault_status fault
 status (refused name bytes fault) = 1
@@ -87,30 +98,36 @@ status (broken name dump fault) = 1
 status (imageless name base bytes fault) = 1
 status (unread name why) = 2
 
--- The text shows the bytes, with or without the offsets of its lines, and a definition block's terms follow, in which names take
--- the stated numbers of arguments.
-abbrev pub IsTextFor : Job → List ℕ → List ℕ → List ℕ → Type 0
-IsTextFor (shows bare stated) bytes text after = IsTextAs bare bytes text × IsAfter stated bytes after
-IsTextFor (checks json) bytes text after = ⊥
-IsTextFor lists bytes text after = ⊥
+-- The bytes are what their signature says.
+abbrev pub IsGatheredFor : Job → List ℕ → Type 0
+IsGatheredFor gathers bytes = IsKind (kind_of bytes) bytes
+IsGatheredFor job bytes = ⊥
+
+-- The text and the lines after it are those that `show` prints of the bytes with its option, and the fault is that of the terms or
+-- of the structures. The name stands before them if it isn't the only word.
+abbrev pub IsTextFor : Job → Bool → List ℕ → List ℕ → List ℕ → List ℕ → Option Fault → Type 0
+IsTextFor (shows style files stated further) more name bytes text after fault =
+    (more ≡ not (is_alone files name))
+    × (unread : Option Fault)
+    × IsShownAs style stated further bytes text after unread
+    × IsShownFault unread bytes fault
+IsTextFor job more name bytes text after fault = ⊥
 
 -- These are the rules that the bytes break, and they are printed as it was asked for.
 abbrev pub AreFindingsFor : Job → Bool → List ℕ → List Finding → Type 0
-AreFindingsFor (shows bare stated) json bytes found = ⊥
 AreFindingsFor (checks asked) json bytes found = (json ≡ asked) × AreFindings bytes found
-AreFindingsFor lists json bytes found = ⊥
+AreFindingsFor job json bytes found = ⊥
 
 -- This is the object of the bytes in a file of this name.
 abbrev pub IsObjectFor : Job → List ℕ → List ℕ → List ℕ → Type 0
-IsObjectFor (shows bare stated) name bytes object = ⊥
-IsObjectFor (checks json) name bytes object = ⊥
 IsObjectFor lists name bytes object = IsObject name bytes object
+IsObjectFor job name bytes object = ⊥
 
--- A table is shown, checked or listed, as it was asked for. The fault is one of the structures or of the bytes, or the first of
+-- A table is gathered, shown, checked or listed, as it was asked for. The fault is one of the structures or of the bytes, or the first of
 -- a dump.
 abbrev pub IsTrueOutcome : Job → Outcome → Type 0
-IsTrueOutcome job (shown several name bytes text after fault) =
-    IsTextFor job bytes text after × HasFault (kind_of bytes) bytes fault
+IsTrueOutcome job (gathered name bytes) = IsGatheredFor job bytes
+IsTrueOutcome job (shown more name bytes text after fault) = IsTextFor job more name bytes text after fault
 IsTrueOutcome job (checked json name bytes found fault) =
     AreFindingsFor job json bytes found × HasFault (kind_of bytes) bytes fault
 IsTrueOutcome job (listed name bytes object fault) = IsObjectFor job name bytes object × HasFault (kind_of bytes) bytes fault
@@ -150,7 +167,8 @@ pub record Printed (job : Job) (outcomes : List Outcome)
 
 -- the outcome is that of these bytes
 abbrev pub HasBytes : List ℕ → Outcome → Type 0
-HasBytes bytes (shown several name its text after fault) = its ≡ bytes
+HasBytes bytes (gathered name its) = its ≡ bytes
+HasBytes bytes (shown more name its text after fault) = its ≡ bytes
 HasBytes bytes (checked json name its found fault) = its ≡ bytes
 HasBytes bytes (listed name its object fault) = its ≡ bytes
 HasBytes bytes (refused name its fault) = its ≡ bytes
@@ -158,26 +176,27 @@ HasBytes bytes (broken name dump fault) = ⊥
 HasBytes bytes (imageless name base its fault) = ⊥
 HasBytes bytes (unread name why) = ⊥
 
--- the outcome has this name, and is that of one of several or not
-abbrev pub IsNamed : Bool → List ℕ → Outcome → Type 0
-IsNamed several name (shown headed its bytes text after fault) = (headed ≡ several) × (its ≡ name)
-IsNamed several name (checked json its bytes found fault) = its ≡ name
-IsNamed several name (listed its bytes object fault) = its ≡ name
-IsNamed several name (refused its bytes fault) = its ≡ name
-IsNamed several name (broken its dump fault) = its ≡ name
-IsNamed several name (imageless its base bytes fault) = its ≡ name
-IsNamed several name (unread its why) = its ≡ name
+-- the outcome has this name
+abbrev pub IsNamed : List ℕ → Outcome → Type 0
+IsNamed name (gathered its bytes) = its ≡ name
+IsNamed name (shown more its bytes text after fault) = its ≡ name
+IsNamed name (checked json its bytes found fault) = its ≡ name
+IsNamed name (listed its bytes object fault) = its ≡ name
+IsNamed name (refused its bytes fault) = its ≡ name
+IsNamed name (broken its dump fault) = its ≡ name
+IsNamed name (imageless its base bytes fault) = its ≡ name
+IsNamed name (unread its why) = its ≡ name
 
 -- each outcome is that of its table, which is a name and bytes
-abbrev pub AreEach : Bool → List (List ℕ × List ℕ) → List Outcome → Type 0
-AreEach several [] [] = Unit {0}
-AreEach several (table ∷ tables) (outcome ∷ more) =
-    IsNamed several table.0 outcome × HasBytes table.1 outcome × AreEach several tables more
-AreEach several _ _ = ⊥
+abbrev pub AreEach : List (List ℕ × List ℕ) → List Outcome → Type 0
+AreEach [] [] = Unit {0}
+AreEach (table ∷ tables) (outcome ∷ more) =
+    IsNamed table.0 outcome × HasBytes table.1 outcome × AreEach tables more
+AreEach _ _ = ⊥
 
 -- the outcomes are those of these tables, in order
-pub record AreOfTables (several : Bool) (tables : List (List ℕ × List ℕ)) (outcomes : List Outcome) : Type 0 where
-  pub each : AreEach several tables outcomes
+pub record AreOfTables (tables : List (List ℕ × List ℕ)) (outcomes : List Outcome) : Type 0 where
+  pub each : AreEach tables outcomes
 
 -- the name of a table of a dump: that of the file, and the table's title, in which a question mark stands for what doesn't print
 abbrev pub label : List ℕ → List ℕ → List ℕ
@@ -186,10 +205,10 @@ label name title = name ++ codes ": " ++ map printable title
 abbrev pub labelled : List ℕ → List ℕ × List ℕ → List ℕ × List ℕ
 labelled name table = (label name table.0, table.1)
 
--- a dump has outcomes of its tables, each of which is one of several, or one that says what is wrong with it
+-- a dump has outcomes of its tables, or one that says what is wrong with it
 abbrev pub AreOfDump : List ℕ → List ℕ → List Outcome → Type 0
 AreOfDump name dump outcomes =
-    ((tables : List (List ℕ × List ℕ)) × (tables_of dump ≡ Ok tables) × AreOfTables true (map (labelled name) tables) outcomes)
+    ((tables : List (List ℕ × List ℕ)) × (tables_of dump ≡ Ok tables) × AreOfTables (map (labelled name) tables) outcomes)
     ⊎ ((fault : DumpFault) × (outcomes ≡ broken name dump fault ∷ []))
 
 -- a table of an image, whose title is its signature
@@ -200,17 +219,17 @@ in_image name memory table = labelled name (title table.signature, contents memo
 abbrev pub AreOfImage : List ℕ → ℕ → List ℕ → List Outcome → Type 0
 AreOfImage name base bytes outcomes =
     ((tables : List Located) × IsFoundImage base bytes tables
-    × AreOfTables true (map (in_image name (image_at base bytes)) tables) outcomes)
+    × AreOfTables (map (in_image name (image_at base bytes)) tables) outcomes)
     ⊎ ((fault : NoImage) × (outcomes ≡ imageless name base bytes fault ∷ []))
 
 -- other bytes have one outcome
-abbrev pub AreOfBytesBy : Bool → Bool → List ℕ → List ℕ → List Outcome → Type 0
-AreOfBytesBy true several name bytes outcomes = AreOfDump name bytes outcomes
-AreOfBytesBy false several name bytes outcomes = AreOfTables several ((name, bytes) ∷ []) outcomes
+abbrev pub AreOfBytesBy : Bool → List ℕ → List ℕ → List Outcome → Type 0
+AreOfBytesBy true name bytes outcomes = AreOfDump name bytes outcomes
+AreOfBytesBy false name bytes outcomes = AreOfTables ((name, bytes) ∷ []) outcomes
 
 -- the outcomes of a file's bytes
-abbrev pub AreOfBytes : Bool → List ℕ → List ℕ → List Outcome → Type 0
-AreOfBytes several name bytes outcomes = AreOfBytesBy (is_dump bytes) several name bytes outcomes
+abbrev pub AreOfBytes : List ℕ → List ℕ → List Outcome → Type 0
+AreOfBytes name bytes outcomes = AreOfBytesBy (is_dump bytes) name bytes outcomes
 
 -- ---- of which files
 
@@ -219,8 +238,8 @@ abbrev pub IsUnread : List ℕ → List Outcome → Type 0
 IsUnread name outcomes = (why : List ℕ) × (outcomes ≡ unread name why ∷ [])
 
 -- the outcomes of a file: the system says which bytes it has
-abbrev pub AreOfFile : Bool → List ℕ → List Outcome → Type 0
-AreOfFile several name outcomes = ((bytes : List ℕ) × AreOfBytes several name bytes outcomes) ⊎ IsUnread name outcomes
+abbrev pub AreOfFile : List ℕ → List Outcome → Type 0
+AreOfFile name outcomes = ((bytes : List ℕ) × AreOfBytes name bytes outcomes) ⊎ IsUnread name outcomes
 
 -- each word has a group of outcomes, in order
 abbrev pub AreGroups : (List ℕ → List Outcome → Type 0) → List (List ℕ) → List (List Outcome) → Type 0
@@ -241,7 +260,7 @@ pub record AreOfEach (Of : List ℕ → List Outcome → Type 0) (words : List (
 -- the outcomes of a folder: the system says which files it has
 abbrev pub AreOfFolder : List ℕ → List Outcome → Type 0
 AreOfFolder folder outcomes =
-    ((paths : List (List ℕ)) × AreOfEach (AreOfFile true) paths outcomes) ⊎ IsUnread folder outcomes
+    ((paths : List (List ℕ)) × AreOfEach AreOfFile paths outcomes) ⊎ IsUnread folder outcomes
 
 -- the outcomes of the image in a file, from a base on
 abbrev pub AreOfImageFile : List ℕ → ℕ → List Outcome → Type 0
@@ -252,27 +271,28 @@ abbrev pub AreOfPlaced : List ℕ → List Outcome → Type 0
 AreOfPlaced word outcomes = (file : List ℕ) × (base : ℕ) × IsPlaced word file base × AreOfImageFile file base outcomes
 
 -- the outcomes of a word: `-` is standard input, and any other word a file, a folder or an image
-abbrev pub AreOfWord : Bool → List ℕ → List Outcome → Type 0
-AreOfWord several word outcomes =
-    AreOfFile several word outcomes
+abbrev pub AreOfWord : List ℕ → List Outcome → Type 0
+AreOfWord word outcomes =
+    AreOfFile word outcomes
     ⊎ ((word ≢ codes "-") × AreOfFolder word outcomes)
     ⊎ AreOfPlaced word outcomes
 
 -- ---- what calls print
 
--- the tables that were checked, each with its name
-abbrev pub checked_of : Outcome → List (List ℕ × List ℕ)
-checked_of (shown several name bytes text after fault) = []
-checked_of (checked json name bytes findings fault) = (name, bytes) ∷ []
-checked_of (listed name bytes object fault) = []
-checked_of (refused name bytes fault) = []
-checked_of (broken name dump fault) = []
-checked_of (imageless name base bytes fault) = []
-checked_of (unread name why) = []
+-- the tables that are kept, each with its name: those that were gathered or checked
+abbrev pub kept_of : Outcome → List (List ℕ × List ℕ)
+kept_of (gathered name bytes) = (name, bytes) ∷ []
+kept_of (shown more name bytes text after fault) = []
+kept_of (checked json name bytes findings fault) = (name, bytes) ∷ []
+kept_of (listed name bytes object fault) = []
+kept_of (refused name bytes fault) = []
+kept_of (broken name dump fault) = []
+kept_of (imageless name base bytes fault) = []
+kept_of (unread name why) = []
 
-abbrev pub checked_in : List Outcome → List (List ℕ × List ℕ)
-checked_in [] = []
-checked_in (outcome ∷ more) = checked_of outcome ++ checked_in more
+abbrev pub kept_in : List Outcome → List (List ℕ × List ℕ)
+kept_in [] = []
+kept_in (outcome ∷ more) = kept_of outcome ++ kept_in more
 
 -- outcomes that are these were printed
 pub record PrintedAs (job : Job) (Are : List Outcome → Type 0)
@@ -281,10 +301,10 @@ pub record PrintedAs (job : Job) (Are : List Outcome → Type 0)
   pub are : Are outcomes
   pub printed : Printed job outcomes out out' err err' returned
 
--- the same, and the tables that were checked were added to those that are kept
+-- the same, and the tables that they keep were added to others
 pub record KeptAs (job : Job) (Are : List Outcome → Type 0) (out out' err err' : Option (List ℕ))
     (kept kept' : List (List ℕ × List ℕ)) (returned : ℕ) : Type 0 where
   pub outcomes : List Outcome
   pub are : Are outcomes
   pub printed : Printed job outcomes out out' err err' returned
-  pub keeps : kept' ≡ kept ++ checked_in outcomes
+  pub keeps : kept' ≡ kept ++ kept_in outcomes

@@ -1,5 +1,5 @@
 -- What a run of the program prints.
-use Rattle.std.specs.Prelude.{◌≡◌, ◌≢◌, ◌⊎◌, ℕ, nat_lt, Bool, true, false, List, [], ◌++◌, Option, Some, None, length, take, drop}
+use Rattle.std.specs.Prelude.{◌≡◌, ◌≢◌, ◌⊎◌, ℕ, max, Bool, true, false, List, [], ◌++◌, Option, Some, None, take, drop}
 use Rattle.std.specs.Prelude.{codes, map}
 use Rattle.std.specs.Prelude.{string_bytes, if◌then◌else◌}
 use Rattle.std.specs.Str.{bytes_eq}
@@ -17,19 +17,22 @@ use Rattle.acpitool_program.specs.Comparing.{Compares}
 use Rattle.acpi_terms_text.specs.Objects.{Callee}
 use Rattle.acpitool_program.specs.Disassembly.{DisassemblesFile, AddsFiles}
 use Rattle.acpi_json.specs.Array.{array}
-use Rattle.acpitool_program.specs.Job.{shows, lists}
+use Rattle.acpitool_program.specs.Job.{gathers, shows, lists}
 use Rattle.acpitool_program.specs.Drawing.{Draws}
 use Rattle.acpitool_program.specs.Laying.{LaysFolder}
 use Rattle.acpitool_program.specs.Listing.{Listed}
 use Rattle.acpitool_program.specs.Loading.{LoadsFolder}
 use Rattle.acpitool_program.specs.Making.{Makes}
-use Rattle.acpitool_program.specs.Outcome.{AreOfEach, AreOfWord, PrintedAs}
+use Rattle.acpitool_program.specs.Outcome.{Outcome, AreTrueOutcomes, outputs, complaints, worst, kept_in, AreOfEach, AreOfTables}
+use Rattle.acpitool_program.specs.Outcome.{AreOfWord, PrintedAs}
+use Rattle.acpitool_program.specs.Shown.{AreFurther}
 use Rattle.acpitool_program.specs.Unpacking.{Unpacks}
 use Rattle.acpitool_program.specs.declared.command.Command.{Command}
 use Rattle.acpitool_program.specs.declared.command.Command.TheVariants.{Help, Version, Show, Check, Image, Make, Template}
 use Rattle.acpitool_program.specs.declared.command.Command.TheVariants.{Disassemble, Names, Unpack, Cpio, Lay, Loader, Diff, Json}
 use Rattle.acpitool_program.specs.declared.command.Command.TheVariants.{Tree}
 use Rattle.acpitool_program.specs.declared.command.Misstated.TheVariants as misstated
+use Rattle.acpitool_program.specs.declared.command.Style.{Style}
 use Rattle.acpi_asl.specs.declared.block.BlockText.{BlockText}
 use Rattle.acpi_asl.specs.declared.block.BlockText.TheVariants as blocks
 use Rattle.acpitool_program.specs.declared.command.Wrong.{Wrong}
@@ -44,7 +47,7 @@ use Rattle.acpitool_program.specs.declared.command.Wrong.TheVariants.{NoFirst, N
 
 abbrev pub usage : List ℕ
 usage =
-    codes "usage: acpitool show [--no-offsets] FILE .. [NAME=N ..] | show --json FILE .. | check [--json] FILE .."
+    codes "usage: acpitool show [--no-offsets|--bytes] FILE .. [NAME=N ..] | show --json FILE .. | check [--json] FILE .."
     ++ codes " | diff FILE FILE"
     ++ codes " | disassemble FILE .. [NAME=N ..] | names [--json] FILE .. [NAME=N ..]"
     ++ codes " | image [--json] FILE [BASE]"
@@ -88,13 +91,23 @@ wrong_text wrong = wrong_line wrong ++ usage
 
 -- ---- show
 
--- Words state these numbers of arguments, and each file has its outcomes, which are those of several if there are more files. The
--- lines of texts have no offsets if this is asked for.
-pub record AreShown (bare : Bool) (files numbers : List (List ℕ))
+-- Words state these numbers of arguments. The tables of all files were gathered, and then shown as the option says. Definition
+-- blocks may name the objects of each other.
+pub record AreShown (style : Style) (files numbers : List (List ℕ))
     (out out' err err' : Option (List ℕ)) (status : ℕ) : Type 0 where
   pub all : List (List ℕ × ℕ)
   pub stated : stated numbers ≡ Some all
-  pub printed : PrintedAs (shows bare all) (AreOfEach (AreOfWord (nat_lt 1 (length files))) files) out out' err err' status
+  pub gathered : List Outcome
+  pub are : AreOfEach AreOfWord files gathered
+  pub hold : AreTrueOutcomes gathers gathered
+  pub further : List Callee
+  pub named : AreFurther all (kept_in gathered) further
+  pub shown : List Outcome
+  pub of : AreOfTables (kept_in gathered) shown
+  pub show : AreTrueOutcomes (shows style files all further) shown
+  pub wrote : Appends out out' (outputs gathered ++ outputs shown)
+  pub complained : Appends err err' (complaints gathered ++ complaints shown)
+  pub is : status ≡ max (worst gathered) (worst shown)
 
 -- which line says that words state no numbers
 abbrev pub IsMisstatedAs : List (List ℕ) → Wrong → Type 0
@@ -110,17 +123,17 @@ pub record NotStated (numbers : List (List ℕ)) (out out' err err' : Option (Li
   pub complained : Appends err err' (wrong_text wrong)
   pub silent : Keeps out out'
 
-abbrev pub IsShown : Bool → List (List ℕ) → List (List ℕ)
+abbrev pub IsShown : Style → List (List ℕ) → List (List ℕ)
     → Option (List ℕ) → Option (List ℕ) → Option (List ℕ) → Option (List ℕ) → ℕ → Type 0
-IsShown bare files numbers out out' err err' status =
-    AreShown bare files numbers out out' err err' status ⊎ NotStated numbers out out' err err' status
+IsShown style files numbers out out' err err' status =
+    AreShown style files numbers out out' err err' status ⊎ NotStated numbers out out' err err' status
 
 -- ---- JSON
 
 -- each file has its outcomes, whose objects are printed as an array
 pub record AreListed (files : List (List ℕ)) (out out' err err' : Option (List ℕ)) (status : ℕ) : Type 0 where
   pub lines : List ℕ
-  pub listed : PrintedAs lists (AreOfEach (AreOfWord (nat_lt 1 (length files))) files) (Some []) (Some lines) err err' status
+  pub listed : PrintedAs lists (AreOfEach AreOfWord files) (Some []) (Some lines) err err' status
   pub wrote : Appends out out' (array lines)
 
 -- ---- disassemble and names
@@ -199,8 +212,8 @@ Lays (Some rsdp) folder file base out out' err err' status = LaysApart folder fi
 abbrev pub IsDone : Command → Option (List ℕ) → Option (List ℕ) → Option (List ℕ) → Option (List ℕ) → ℕ → Type 0
 IsDone Help out out' err err' status = (more : List ℕ) × (status ≡ 0) × Appends out out' (usage ++ more) × Keeps err err'
 IsDone Version out out' err err' status = (status ≡ 0) × Appends out out' version × Keeps err err'
-IsDone (Show bare files numbers) out out' err err' status =
-    IsShown bare (map (λ word. string_bytes word) files.now) (map (λ word. string_bytes word) numbers.now)
+IsDone (Show style files numbers) out out' err err' status =
+    IsShown style (map (λ word. string_bytes word) files.now) (map (λ word. string_bytes word) numbers.now)
     out out' err err' status
 IsDone (Json files) out out' err err' status =
     AreListed (map (λ word. string_bytes word) files.now) out out' err err' status

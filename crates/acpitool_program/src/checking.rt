@@ -6,7 +6,7 @@ ghost use Rattle.acpitool_program.specs.Checking.{AreCheckedAs, AreChecked};
 use crate::job::Job;
 use crate::machine::print_machine;
 use crate::outcome::worst_of;
-use crate::show::show_words;
+use crate::visit::visit_words;
 use acpi_json::array::array_of;
 use std::alloc::Global;
 use std::io;
@@ -26,18 +26,8 @@ fn check_words<R: Files + Input + AllocGlobal + Clone + Drop, O: Write, E: Write
     ensures { IfOk result (λ status. AreCheckedAs json (map (λ word. string_bytes word) files.now)
         (O.contents out.old) (O.contents out.new) (E.contents err.old) (E.contents err.new) status) }
 {
-    let several = files.len() > 1;
     let mut kept = Vec::new(alloc);
-    let status = show_words(
-        rt,
-        alloc,
-        &Job::Checks(json),
-        files,
-        several,
-        out,
-        err,
-        &mut kept,
-    )?;
+    let status = visit_words(rt, alloc, &Job::Checks(json), files, out, err, &mut kept)?;
     let across = print_machine(alloc, json, &kept, out)?;
     Ok(worst_of(status, across))
 }

@@ -5,8 +5,8 @@ ghost use Rattle.std.specs.List.{slice_get};
 ghost use Rattle.std.specs.Prelude.{MatchResult, MatchOption, IfOk, None, Some, true};
 ghost use Rattle.std.specs.List.{starts_with};
 ghost use Rattle.acpi_input.specs.Stated.{stated};
-ghost use Rattle.acpitool_program.specs.Command.{is_option, is_force, is_json, is_bare, is_dot, leads, begins_with_json};
-ghost use Rattle.acpitool_program.specs.Command.{begins_with_bare, begins_with_dot, begins_with_rsdp, begins_with_option};
+ghost use Rattle.acpitool_program.specs.Command.{is_option, is_force, is_json, is_bare, is_bytes, is_dot, leads, begins_with_json};
+ghost use Rattle.acpitool_program.specs.Command.{style_of, begins_with_dot, begins_with_rsdp, begins_with_option};
 ghost use Rattle.acpitool_program.specs.Command.{after_option, takes, option_in, is_rsdp, AreAfter, IsRest};
 ghost use Rattle.acpitool_program.specs.Command.{first_option, forces, unforced, has, is_number};
 ghost use Rattle.acpitool_program.specs.Command.{files_in, first_unstated, IsMisstated};
@@ -24,9 +24,9 @@ pub enum Command<'a> {
     Help,
     /// `--version`: its version.
     Version,
-    /// `show [--no-offsets] FILE .. [NAME=N ..]`: the texts of tables in files, in folders, or on standard input where the word
-    /// is `-`, and the words that state numbers of arguments. `--no-offsets` is there or not.
-    Show(bool, &'a [String], &'a [String]),
+    /// `show [--no-offsets|--bytes] FILE .. [NAME=N ..]`: the texts of tables in files, in folders, or on standard input where
+    /// the word is `-`, and the words that state numbers of arguments.
+    Show(Style, &'a [String], &'a [String]),
     /// `show --json FILE ..`: these tables as JSON.
     Json(&'a [String]),
     /// `check [--json] FILE ..`: the rules that tables in files, in folders, or on standard input where the word is `-`, break.
@@ -62,6 +62,17 @@ pub enum Command<'a> {
     /// `tree [--dot] FILE`: the structures of the table in a file, or on standard input where the word is `-`, as a tree. With
     /// `--dot` they are a graph.
     Tree(bool, &'a str),
+}
+
+/// How `show` shows tables, by its option.
+#[derive(Clone, Copy, Debug)]
+pub enum Style {
+    /// There is no option. The lines of texts have offsets, and the terms of definition blocks are ASL.
+    Usual,
+    /// `--no-offsets`: the same without offsets.
+    Bare,
+    /// `--bytes`: a definition block is shown by its bytes, as any other table, and its terms are comments.
+    Bytes,
 }
 
 /// A command that takes words.
@@ -186,6 +197,13 @@ fn is_bare(word: &str) -> bool
     word == "--no-offsets"
 }
 
+// Returns whether a word is `--bytes`.
+fn is_bytes(word: &str) -> bool
+    ensures { result ≡ is_bytes word.now }
+{
+    word == "--bytes"
+}
+
 // Returns whether a word is `--dot`.
 fn is_dot(word: &str) -> bool
     ensures { result ≡ is_dot word.now }
@@ -210,13 +228,14 @@ fn begins_with_json(words: &[String]) -> bool
     }
 }
 
-// Returns whether the first word is `--no-offsets`.
-fn begins_with_bare(words: &[String]) -> bool
-    ensures { result ≡ begins_with_bare (map (λ word. string_bytes word) words.now) }
+// Returns how tables are shown, by the first word.
+fn style_of(words: &[String]) -> Style
+    ensures { result ≡ style_of (map (λ word. string_bytes word) words.now) }
 {
     match words {
-        [] => false,
-        [word, ..] => is_bare(word.as_str()),
+        [word, ..] if is_bare(word.as_str()) => Style::Bare,
+        [word, ..] if is_bytes(word.as_str()) => Style::Bytes,
+        _ => Style::Usual,
     }
 }
 
@@ -245,7 +264,7 @@ fn leads(verb: Verb, word: &str) -> bool
     ensures { result ≡ leads verb word.now }
 {
     match verb {
-        Verb::Show => is_json(word) || is_bare(word),
+        Verb::Show => is_json(word) || is_bare(word) || is_bytes(word),
         Verb::Check | Verb::Image | Verb::Names => is_json(word),
         Verb::Tree => is_dot(word),
         Verb::Lay => is_rsdp(word),
@@ -378,7 +397,7 @@ fn show(words: &[String]) -> Result<Command<'_>, Wrong<'_>>
         return Err(Wrong::NoFile);
     }
     let (files, numbers) = rest.split_at(count);
-    Ok(Command::Show(begins_with_bare(words), files, numbers))
+    Ok(Command::Show(style_of(words), files, numbers))
 }
 
 // Returns what `check` and these words, which aren't options, ask for.

@@ -9,8 +9,8 @@ use std::io;
 use std::io::Write;
 
 const USAGE: &str = "\
-usage: acpitool show [--no-offsets] FILE .. [NAME=N ..] | show --json FILE .. | check [--json] FILE .. | diff FILE FILE \
-| disassemble FILE .. [NAME=N ..] | names [--json] FILE .. [NAME=N ..] | image [--json] FILE [BASE] \
+usage: acpitool show [--no-offsets|--bytes] FILE .. [NAME=N ..] | show --json FILE .. | check [--json] FILE .. \
+| diff FILE FILE | disassemble FILE .. [NAME=N ..] | names [--json] FILE .. [NAME=N ..] | image [--json] FILE [BASE] \
 | make [--force] TEXT FILE | template SIGNATURE | unpack FILE FOLDER [BASE] | cpio FOLDER FILE \
 | lay [--rsdp ADDRESS] FOLDER FILE BASE | loader FOLDER OUT | tree [--dot] FILE | --help | --version
 ";
@@ -22,10 +22,13 @@ means. The text has all bytes of the table. A FILE is a table, an RSDP, a FACS, 
 text (of acpidump), or a folder of such files, in which folders are skipped; - is standard input. FILE@BASE stands for
 all tables of the image in FILE, which begins at the physical address BASE in hexadecimal, as image finds them; a file
 of this whole name comes first.
-The terms of a definition block follow as comments.
+A definition block is shown as ASL after the fields of its header, which are comments. If not all of its terms can be
+read, its bytes are shown, and comments say why and have the ASL of the others. The definition blocks of all FILEs may
+call each other's methods, if at most one of them is a DSDT.
 NAME=N states how many arguments calls of NAME have. Calls of other names have as many as the table states for
 the method of this name, or else none. With --no-offsets right after it, show leaves out the offsets at the front of
-lines, so that a text diff of two tables has only what differs. make reads such a text, too.
+lines, so that a text diff of two tables has only what differs. With --bytes it shows the bytes of definition blocks, as
+of all other tables, and their terms are comments. make reads each of these texts.
 
 show --json prints the same tables as one array of JSON for scripts: an object for each, with its signature, its
 length, its fields by offset, name and value, its structures with their fields, and all of its bytes. A number above
@@ -63,8 +66,8 @@ Question marks are worked out: the length, the checksum, and how long, how many 
 are. Other numbers stay as they are. A line says of a wrong length, count or checksum which would be right, and
 the table isn't written; with --force it is. As TEXT, - is standard input, and as FILE, standard output. TEXT
 and FILE may not be the same file. A regular FILE is replaced as a whole by FILE.part, which may not be there
-before. A device, a pipe or a link stays what it is, and takes the bytes. Of a text of ASL, as disassemble prints it,
-changed or written by hand in the same form, make writes the definition block. Its ASL is this text, and else a line
+before. A device, a pipe or a link stays what it is, and takes the bytes. Of a text of ASL, as show and disassemble print
+it, changed or written by hand in the same form, make writes the definition block. Its ASL is this text, and else a line
 says which word of the text would be another.
 
 template prints such a text of a table: all fields, mostly with zeros, and one structure of each kind. It knows

@@ -1,4 +1,4 @@
-//! The tables that were checked, and the rules on several tables that they break.
+//! The tables that are kept, and the rules on several tables that they break.
 
 ghost use Rattle.std.specs.Prelude.{◌≡◌, ◌++◌, [], ◌∷◌, map, IfOk, OnOk};
 ghost use Rattle.std.specs.Io.KnownBytes.{Appends};
@@ -11,7 +11,7 @@ use std::alloc::{AllocError, Global};
 use std::io;
 use std::io::Write;
 
-/// A table that was checked.
+/// A table that was gathered or checked.
 #[derive(Debug, Drop)]
 pub struct Kept {
     /// The name of its file, for a table of a dump with its title.
@@ -20,7 +20,7 @@ pub struct Kept {
     pub bytes: Vec<u8>,
 }
 
-/// Adds a table to those that were checked.
+/// Adds a table to those that are kept.
 pub fn keep(alloc: Global, name: &str, bytes: &[u8], kept: &mut Vec<Kept>) -> Result<(), AllocError>
     ensures { OnOk result (map kept_by kept.new.items ≡ map kept_by kept.old.items ++ (name.now, bytes.now) ∷ []) }
 {

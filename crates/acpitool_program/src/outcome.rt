@@ -1,56 +1,33 @@
-//! What is printed of one table or one file.
+//! What is done with one table or one file.
 
-ghost use Rattle.std.specs.Prelude.{◌≡◌, ℕ, List, [], ◌∷◌, ◌++◌, map, IfOk, OnOk, string_bytes, codes, true, max};
+ghost use Rattle.std.specs.Prelude.{◌≡◌, ℕ, List, [], ◌∷◌, ◌++◌, Option, map, IfOk, OnOk, string_bytes, codes, true, max};
 ghost use Rattle.std.specs.Io.KnownBytes.{Appends};
 ghost use Rattle.acpi_dump.specs.Dump.{titled, is_dump, tables_of};
 ghost use Rattle.acpi_layout.specs.Addresses.{image_at};
-ghost use Rattle.acpitool_program.specs.Job.{shows, checks, lists, asked};
+ghost use Rattle.acpitool_program.specs.Job.{gathers, checks, lists, asked};
 ghost use Rattle.acpitool_program.specs.Machine.{kept_by};
-ghost use Rattle.acpitool_program.specs.Outcome.{heading, fault_line, fault_status, label, labelled};
+ghost use Rattle.acpitool_program.specs.Outcome.{fault_line, fault_status, label, labelled};
 ghost use Rattle.acpitool_program.specs.Outcome.{AreOfTables, AreOfDump, AreOfImage, AreOfBytes, PrintedAs, KeptAs, in_image};
 
 use crate::checked::{findings_of, printed_of, status_of};
 use crate::complaint::complain;
 use crate::fault::Fault;
 use crate::image::{contents, find_tables};
-use crate::job::{Job, Showing};
+use crate::job::Job;
 use crate::listing::tell_no_image;
 use crate::machine::{Kept, keep};
 use crate::object::object_of;
 use crate::placed::Placed;
 use crate::structures::structures_fault;
-use crate::terms::lines_after;
-use crate::text::text_as;
+use crate::text::check_kind;
 use acpi_dump::dump::{Dumped, is_dump, tables_of};
 use acpi_dump::fault::DumpFault;
 use acpi_layout::located::Located;
 use acpi_read::report::push_shown;
-use acpi_text::comment::push_comment;
 use acpi_tree::image::title;
 use std::alloc::{AllocError, Global};
 use std::io;
 use std::io::Write;
-
-// Returns the lines before a table's text: its name as a comment, if it is one of several.
-fn heading(alloc: Global, name: &str, several: bool) -> Result<String, AllocError>
-    ensures { IfOk result (λ before. string_bytes before ≡ heading several name.now) }
-{
-    let mut text = String::new(alloc);
-    if !several {
-        return Ok(text);
-    }
-    push_comment(name, &mut text)?;
-    Ok(text)
-}
-
-// Prints a table's text, and the lines before and after it.
-fn print_text<O: Write>(before: &str, text: &[u8], after: &str, out: &mut O) -> io::Result<()>
-    ensures { OnOk result (Appends (O.contents out.old) (O.contents out.new) (before.now ++ text.now ++ after.now)) }
-{
-    out.write_all(before.as_bytes())?;
-    out.write_all(text)?;
-    out.write_all(after.as_bytes())
-}
 
 /// Prints a fault, if there is one, and returns 1, or returns 0.
 pub fn tell_fault<E: Write>(
@@ -71,28 +48,21 @@ pub fn tell_fault<E: Write>(
     }
 }
 
-// Prints the text of a table, a pointer or a control structure on `out`, and the terms of a definition block after it. Prints on
-// `err` what is wrong with its structures, or why it isn't shown. Returns 0 or 1.
-fn show_table<O: Write, E: Write>(
+// Keeps a table, a pointer or a control structure, or prints on `err` what is wrong with its bytes. Returns 0 or 1.
+fn gather_table<E: Write>(
     alloc: Global,
-    showing: &Showing<'_>,
     name: &str,
     bytes: &[u8],
-    several: bool,
-    out: &mut O,
     err: &mut E,
+    kept: &mut Vec<Kept>,
 ) -> io::Result<u8>
-    ensures { IfOk result (λ status. PrintedAs (shows showing.now.bare showing.now.stated.now)
-        (AreOfTables several ((name.now, bytes.now) ∷ []))
-        (O.contents out.old) (O.contents out.new) (E.contents err.old) (E.contents err.new) status) }
+    ensures { IfOk result (λ status. (out : Option (List ℕ)) → KeptAs gathers (AreOfTables ((name.now, bytes.now) ∷ []))
+        out out (E.contents err.old) (E.contents err.new) (map kept_by kept.old.items) (map kept_by kept.new.items) status) }
 {
-    match text_as(alloc, showing.bare, bytes) {
-        Ok(text) => {
-            let before = heading(alloc, name, several)?;
-            let after = lines_after(alloc, showing.stated, bytes)?;
-            let fault = structures_fault(alloc, bytes)?;
-            print_text(before.as_str(), &text, after.as_str(), out)?;
-            Ok(tell_fault(alloc, name, &fault, err)?)
+    match check_kind(bytes) {
+        Ok(()) => {
+            keep(alloc, name, bytes, kept)?;
+            Ok(0)
         }
         Err(fault) => {
             complain(alloc, name, &fault, err)?;
@@ -108,12 +78,11 @@ fn check_table<O: Write, E: Write>(
     json: bool,
     name: &str,
     bytes: &[u8],
-    several: bool,
     out: &mut O,
     err: &mut E,
     kept: &mut Vec<Kept>,
 ) -> io::Result<u8>
-    ensures { IfOk result (λ status. KeptAs (checks json) (AreOfTables several ((name.now, bytes.now) ∷ []))
+    ensures { IfOk result (λ status. KeptAs (checks json) (AreOfTables ((name.now, bytes.now) ∷ []))
         (O.contents out.old) (O.contents out.new) (E.contents err.old) (E.contents err.new)
         (map kept_by kept.old.items) (map kept_by kept.new.items) status) }
 {
@@ -139,11 +108,10 @@ fn list_table<O: Write, E: Write>(
     alloc: Global,
     name: &str,
     bytes: &[u8],
-    several: bool,
     out: &mut O,
     err: &mut E,
 ) -> io::Result<u8>
-    ensures { IfOk result (λ status. PrintedAs lists (AreOfTables several ((name.now, bytes.now) ∷ []))
+    ensures { IfOk result (λ status. PrintedAs lists (AreOfTables ((name.now, bytes.now) ∷ []))
         (O.contents out.old) (O.contents out.new) (E.contents err.old) (E.contents err.new) status) }
 {
     match object_of(alloc, name, bytes) {
@@ -160,25 +128,24 @@ fn list_table<O: Write, E: Write>(
     }
 }
 
-// Prints the text or the object of a table, or the rules that it breaks. Keeps it if it is checked.
-fn print_table<O: Write, E: Write>(
+// Gathers, checks or lists a table.
+fn visit_table<O: Write, E: Write>(
     alloc: Global,
-    job: &Job<'_>,
+    job: &Job,
     name: &str,
     bytes: &[u8],
-    several: bool,
     out: &mut O,
     err: &mut E,
     kept: &mut Vec<Kept>,
 ) -> io::Result<u8>
-    ensures { IfOk result (λ status. KeptAs (asked job.now) (AreOfTables several ((name.now, bytes.now) ∷ []))
+    ensures { IfOk result (λ status. KeptAs (asked job.now) (AreOfTables ((name.now, bytes.now) ∷ []))
         (O.contents out.old) (O.contents out.new) (E.contents err.old) (E.contents err.new)
         (map kept_by kept.old.items) (map kept_by kept.new.items) status) }
 {
     match *job {
-        Job::Shows(showing) => Ok(show_table(alloc, showing, name, bytes, several, out, err)?),
-        Job::Checks(json) => Ok(check_table(alloc, json, name, bytes, several, out, err, kept)?),
-        Job::Lists => Ok(list_table(alloc, name, bytes, several, out, err)?),
+        Job::Gathers => Ok(gather_table(alloc, name, bytes, err, kept)?),
+        Job::Checks(json) => Ok(check_table(alloc, json, name, bytes, out, err, kept)?),
+        Job::Lists => Ok(list_table(alloc, name, bytes, out, err)?),
     }
 }
 
@@ -199,10 +166,10 @@ fn label(alloc: Global, name: &str, title: &[u8]) -> Result<String, AllocError>
     Ok(text)
 }
 
-// Shows, checks or lists a table of a dump or an image.
-fn show_titled<O: Write, E: Write>(
+// Gathers, checks or lists a table of a dump or an image.
+fn visit_titled<O: Write, E: Write>(
     alloc: Global,
-    job: &Job<'_>,
+    job: &Job,
     name: &str,
     title: &[u8],
     bytes: &[u8],
@@ -210,18 +177,18 @@ fn show_titled<O: Write, E: Write>(
     err: &mut E,
     kept: &mut Vec<Kept>,
 ) -> io::Result<u8>
-    ensures { IfOk result (λ status. KeptAs (asked job.now) (AreOfTables true (labelled name.now (title.now, bytes.now) ∷ []))
+    ensures { IfOk result (λ status. KeptAs (asked job.now) (AreOfTables (labelled name.now (title.now, bytes.now) ∷ []))
         (O.contents out.old) (O.contents out.new) (E.contents err.old) (E.contents err.new)
         (map kept_by kept.old.items) (map kept_by kept.new.items) status) }
 {
     let label = label(alloc, name, title)?;
-    Ok(print_table(alloc, job, label.as_str(), bytes, true, out, err, kept)?)
+    Ok(visit_table(alloc, job, label.as_str(), bytes, out, err, kept)?)
 }
 
-// Shows, checks or lists the tables of a dump, and returns the greatest status.
-fn show_tables<O: Write, E: Write>(
+// Gathers, checks or lists the tables of a dump, and returns the greatest status.
+fn visit_tables<O: Write, E: Write>(
     alloc: Global,
-    job: &Job<'_>,
+    job: &Job,
     name: &str,
     tables: &[Dumped],
     out: &mut O,
@@ -229,22 +196,22 @@ fn show_tables<O: Write, E: Write>(
     kept: &mut Vec<Kept>,
 ) -> io::Result<u8>
     ensures { IfOk result (λ status. KeptAs (asked job.now)
-        (AreOfTables true (map (λ table. labelled name.now (titled table)) tables.now))
+        (AreOfTables (map (λ table. labelled name.now (titled table)) tables.now))
         (O.contents out.old) (O.contents out.new) (E.contents err.old) (E.contents err.new)
         (map kept_by kept.old.items) (map kept_by kept.new.items) status) }
 {
     let mut worst = 0;
     'tables: for table in tables {
-        let status = show_titled(alloc, job, name, &table.title, &table.bytes, out, err, kept)?;
+        let status = visit_titled(alloc, job, name, &table.title, &table.bytes, out, err, kept)?;
         worst = worst_of(worst, status);
     }
     Ok(worst)
 }
 
-// Shows, checks or lists the tables of a dump, or prints which of its lines can't be read.
-fn show_dump<O: Write, E: Write>(
+// Gathers, checks or lists the tables of a dump, or prints which of its lines can't be read.
+fn visit_dump<O: Write, E: Write>(
     alloc: Global,
-    job: &Job<'_>,
+    job: &Job,
     name: &str,
     dump: &[u8],
     out: &mut O,
@@ -257,7 +224,7 @@ fn show_dump<O: Write, E: Write>(
         (map kept_by kept.old.items) (map kept_by kept.new.items) status) }
 {
     match tables_of(alloc, dump) {
-        Ok(tables) => Ok(show_tables(alloc, job, name, &tables, out, err, kept)?),
+        Ok(tables) => Ok(visit_tables(alloc, job, name, &tables, out, err, kept)?),
         Err(DumpFault::Memory) => Err(io::Error::from(AllocError)),
         Err(fault) => {
             complain(alloc, name, &fault, err)?;
@@ -266,10 +233,10 @@ fn show_dump<O: Write, E: Write>(
     }
 }
 
-// Shows, checks or lists a table of an image.
-fn show_one<O: Write, E: Write>(
+// Gathers, checks or lists a table of an image.
+fn visit_one<O: Write, E: Write>(
     alloc: Global,
-    job: &Job<'_>,
+    job: &Job,
     image: &Placed<'_>,
     bytes: &[u8],
     table: &Located,
@@ -278,19 +245,19 @@ fn show_one<O: Write, E: Write>(
     kept: &mut Vec<Kept>,
 ) -> io::Result<u8>
     ensures { IfOk result (λ status. KeptAs (asked job.now)
-        (AreOfTables true (in_image image.now.file.now (image_at image.now.base bytes.now) table.now ∷ []))
+        (AreOfTables (in_image image.now.file.now (image_at image.now.base bytes.now) table.now ∷ []))
         (O.contents out.old) (O.contents out.new) (E.contents err.old) (E.contents err.new)
         (map kept_by kept.old.items) (map kept_by kept.new.items) status) }
 {
     let title = title(&table.signature);
     let bytes = contents(image.base, bytes, table);
-    Ok(show_titled(alloc, job, image.file, &title, bytes, out, err, kept)?)
+    Ok(visit_titled(alloc, job, image.file, &title, bytes, out, err, kept)?)
 }
 
-// Shows, checks or lists the tables of an image, and returns the greatest status.
-fn show_found<O: Write, E: Write>(
+// Gathers, checks or lists the tables of an image, and returns the greatest status.
+fn visit_found<O: Write, E: Write>(
     alloc: Global,
-    job: &Job<'_>,
+    job: &Job,
     image: &Placed<'_>,
     bytes: &[u8],
     tables: &[Located],
@@ -299,23 +266,23 @@ fn show_found<O: Write, E: Write>(
     kept: &mut Vec<Kept>,
 ) -> io::Result<u8>
     ensures { IfOk result (λ status. KeptAs (asked job.now)
-        (AreOfTables true (map (in_image image.now.file.now (image_at image.now.base bytes.now)) tables.now))
+        (AreOfTables (map (in_image image.now.file.now (image_at image.now.base bytes.now)) tables.now))
         (O.contents out.old) (O.contents out.new) (E.contents err.old) (E.contents err.new)
         (map kept_by kept.old.items) (map kept_by kept.new.items) status) }
 {
     let mut worst = 0;
     'tables: for table in tables {
-        let status = show_one(alloc, job, image, bytes, table, out, err, kept)?;
+        let status = visit_one(alloc, job, image, bytes, table, out, err, kept)?;
         worst = worst_of(worst, status);
     }
     Ok(worst)
 }
 
-/// Shows, checks or lists the tables of an image, or prints why the bytes are none. Tables that were checked are added to those
-/// that are kept. Returns 0 or 1.
-pub fn show_image<O: Write, E: Write>(
+/// Gathers, checks or lists the tables of an image, or prints why the bytes are none. Tables that were gathered or checked
+/// are added to those that are kept. Returns 0 or 1.
+pub fn visit_image<O: Write, E: Write>(
     alloc: Global,
-    job: &Job<'_>,
+    job: &Job,
     image: &Placed<'_>,
     bytes: &[u8],
     out: &mut O,
@@ -327,32 +294,30 @@ pub fn show_image<O: Write, E: Write>(
         (map kept_by kept.old.items) (map kept_by kept.new.items) status) }
 {
     match find_tables(alloc, image.base, bytes) {
-        Ok(tables) => Ok(show_found(alloc, job, image, bytes, &tables, out, err, kept)?),
+        Ok(tables) => Ok(visit_found(alloc, job, image, bytes, &tables, out, err, kept)?),
         Err(fault) => Ok(tell_no_image(alloc, image.file, image.base, &fault, err)?),
     }
 }
 
-/// Shows, checks or lists what is in a file: a table, a pointer, a control structure, or the tables of a dump. What can't be
-/// shown has a line on `err`, and so has a table whose structures can't be found. Tables that were checked are added to those
-/// that are kept. Returns 0 or 1.
-pub fn show_content<O: Write, E: Write>(
+/// Gathers, checks or lists what is in a file: a table, a pointer, a control structure, or the tables of a dump. What isn't
+/// valid has a line on `err`. Tables that were gathered or checked are added to those that are kept. Returns 0 or 1.
+pub fn visit_content<O: Write, E: Write>(
     alloc: Global,
-    job: &Job<'_>,
+    job: &Job,
     name: &str,
     bytes: &[u8],
-    several: bool,
     out: &mut O,
     err: &mut E,
     kept: &mut Vec<Kept>,
 ) -> io::Result<u8>
-    ensures { IfOk result (λ status. KeptAs (asked job.now) (AreOfBytes several name.now bytes.now)
+    ensures { IfOk result (λ status. KeptAs (asked job.now) (AreOfBytes name.now bytes.now)
         (O.contents out.old) (O.contents out.new) (E.contents err.old) (E.contents err.new)
         (map kept_by kept.old.items) (map kept_by kept.new.items) status) }
 {
     if is_dump(bytes) {
-        return Ok(show_dump(alloc, job, name, bytes, out, err, kept)?);
+        return Ok(visit_dump(alloc, job, name, bytes, out, err, kept)?);
     }
-    Ok(print_table(alloc, job, name, bytes, several, out, err, kept)?)
+    Ok(visit_table(alloc, job, name, bytes, out, err, kept)?)
 }
 
 /// Prints why a file can't be read, and returns 2.

@@ -148,8 +148,8 @@ pub fn run<R: Files + Input + AllocGlobal + Clone + Drop, O: Write, E: Write>(
     match parse(words) {
         Ok(Command::Help) => print_help(out),
         Ok(Command::Version) => print_version(out),
-        Ok(Command::Show(bare, files, words)) => {
-            show_all(rt, alloc, bare, files, words, out, err)
+        Ok(Command::Show(style, files, words)) => {
+            show_all(rt, alloc, style, files, words, out, err)
         }
         Ok(Command::Disassemble(file, words)) => {
             disassemble(rt, alloc, BlockText::Asl, file, words, out, err)

@@ -61,8 +61,8 @@ fn unread_line(alloc: Global, place: Option<usize>, words: &str) -> Result<Strin
     }
 }
 
-// Returns the line of an error.
-fn error_line(alloc: Global, fault: &Fault) -> Result<String, AllocError>
+/// Returns the line of an error.
+pub fn error_line(alloc: Global, fault: &Fault) -> Result<String, AllocError>
     ensures { IfOk result (λ line. string_bytes line ≡ error_line fault.now) }
 {
     let text = unread_line(alloc, fault.place, fault.words)?;

@@ -89,8 +89,8 @@ pub fn text_of(alloc: Global, bytes: &[u8]) -> Result<String, Fault>
     }
 }
 
-// Returns a text as bytes, with or without the offsets of its lines.
-fn as_asked(alloc: Global, bare: bool, text: String) -> Result<Vec<u8>, AllocError>
+/// Returns a text as bytes, with or without the offsets of its lines.
+pub fn as_asked(alloc: Global, bare: bool, text: String) -> Result<Vec<u8>, AllocError>
     ensures whole { IfOk result (λ made. bare ≡ false → made.items ≡ string_bytes text) }
     ensures bare { IfOk result (λ made. bare ≡ true → made.items ≡ without_offsets [] (string_bytes text)) }
 {

@@ -40,6 +40,7 @@ fn push_command(words: &mut Vec<String>, command: &str) -> io::Result<()> {
     match command {
         "json" => push_both(words, "show", "--json"),
         "bare" => push_both(words, "show", "--no-offsets"),
+        "bytes" => push_both(words, "show", "--bytes"),
         "findings" => push_both(words, "check", "--json"),
         "listing" => push_both(words, "image", "--json"),
         "objects" => push_both(words, "names", "--json"),

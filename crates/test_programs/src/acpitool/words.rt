@@ -5,8 +5,8 @@ use std::test::Fail;
 
 // What is printed after the line of a wrong word.
 const USAGE: &str = "\
-usage: acpitool show [--no-offsets] FILE .. [NAME=N ..] | show --json FILE .. | check [--json] FILE .. | diff FILE FILE \
-| disassemble FILE .. [NAME=N ..] | names [--json] FILE .. [NAME=N ..] | image [--json] FILE [BASE] \
+usage: acpitool show [--no-offsets|--bytes] FILE .. [NAME=N ..] | show --json FILE .. | check [--json] FILE .. \
+| diff FILE FILE | disassemble FILE .. [NAME=N ..] | names [--json] FILE .. [NAME=N ..] | image [--json] FILE [BASE] \
 | make [--force] TEXT FILE | template SIGNATURE | unpack FILE FOLDER [BASE] | cpio FOLDER FILE \
 | lay [--rsdp ADDRESS] FOLDER FILE BASE | loader FOLDER OUT | tree [--dot] FILE | --help | --version
 ";
@@ -55,6 +55,8 @@ fn wrong_commands(rt: HostRuntime) -> Result<(), Fail> {
             (&["show", "--no-offsets"], "no file to show\n"),
             (&["show", "--no-offsets", "MTHD=2"], "no file to show\n"),
             (&["show", "--no-offset", "x"], "unknown word --no-offset\n"),
+            (&["show", "--bytes"], "no file to show\n"),
+            (&["check", "--bytes", "x"], "unknown word --bytes\n"),
             (
                 &["check", "--no-offsets", "x"],
                 "unknown word --no-offsets\n",
@@ -104,6 +106,8 @@ fn wrong_places(rt: HostRuntime) -> Result<(), Fail> {
             (&["show", "--json", "--json"], "--json\n"),
             (&["show", "--json", "--no-offsets", "x"], "--no-offsets\n"),
             (&["show", "--no-offsets", "--json", "x"], "--json\n"),
+            (&["show", "--no-offsets", "--bytes", "x"], "--bytes\n"),
+            (&["show", "x", "--bytes"], "--bytes\n"),
             (&["check", "x", "--json"], "--json\n"),
             (&["image", "x", "--json"], "--json\n"),
             (&["names", "x", "--json"], "--json\n"),

@@ -6,7 +6,7 @@ use Rattle.acpitool_program.proofs.outcome.check_table.Goals as goal
 
 pub returns-in_ok-keep-in-Ok : goal.returns-in_ok-keep-in-Ok
 returns-in_ok-keep-in-Ok g c =
-    one_checked c.args.json _ _ _ _ _ _ c.args.several c.args.name.now c.args.bytes.now _ _ _ _
+    one_checked c.args.json _ _ _ _ _ _ c.args.name.now c.args.bytes.now _ _ _ _
     c.in-Ok.ensures.ok
     (c.deref-in-Ok.ensures.value ∙ c.in_ok-lines-in-Ok.ensures
     ∙ ap (λ found. printed_findings c.args.json c.args.name.now c.args.bytes.now (map noted found)) c.deref.ensures.value)
@@ -17,4 +17,4 @@ returns-in_ok-keep-in-Ok g c =
 pub returns-in_ok-complain-in-Err : goal.returns-in_ok-complain-in-Err
 returns-in_ok-complain-in-Err g c =
     let line = c.in_ok-complain-in-Err.ensures in
-    one_refused _ _ _ _ _ c.args.several c.args.name.now c.args.bytes.now _ line.0 c.in-Err.ensures.err line.1 line.2
+    one_refused _ _ _ _ _ c.args.name.now c.args.bytes.now _ line.0 c.in-Err.ensures.err line.1 line.2
