@@ -121,7 +121,7 @@ built deep 20000 'a term at depth 250'
 
 many make marks 10000 'a structure whose length is made of question marks' "$work/table"
 many make references 10000 'a node that refers to another, which is made' "$work/table"
-many show methods 4000 'a method that is shown, and a call of it'
+many show methods 4000 'a method that is shown as ASL, and a call of it'
 many disassemble devices 4000 'a device of 47 bytes that is shown as ASL'
 many make asl 4000 'a device of 47 bytes that is made of ASL' "$work/table"
 many disassemble code 4000 'a device of 86 bytes with two methods that is shown as ASL'
