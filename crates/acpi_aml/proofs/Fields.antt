@@ -1,13 +1,11 @@
 -- Entries of fields, one after another.
-use Rattle.std.proofs.Common.{◌≡◌, ℕ, ◌+◌, ◌<◌, ◌^◌, List, [], ◌∷◌, ◌++◌, length, take, drop, get_or, Bool, true, false, cond, Some, None, refl, sym, ◌∙◌, ap, append_assoc}
+use Rattle.std.proofs.Common.{◌≡◌, ℕ, ◌+◌, ◌<◌, ◌^◌, List, [], ◌∷◌, ◌++◌, length, map, take, drop, get_or, Bool, true, false, cond, Some, None, refl, sym, ◌∙◌, ap, append_assoc}
 use Rattle.std.specs.Prelude.{Option, nat_lt}
 use Rattle.std.proofs.lemmas.List.{take_more, take-append-drop, map-append, append-nil}
 use Rattle.acpi_base.specs.declared.error.Error.{Error}
 use Rattle.acpi_base.specs.declared.error.Error.TheVariants.{PkgLength}
 use Rattle.acpi_term.specs.Tree.{Entry}
 use Rattle.acpi_term.specs.Row.{entry_length, entry_bytes, entries_bytes, entries_end}
-use Rattle.acpi_aml.specs.declared.field.FieldEntry.{FieldEntry}
-use Rattle.acpi_aml.specs.Field.{entry_of, entries_of}
 
 entries_bytes-append : (a b : List Entry) → entries_bytes (a ++ b) ≡ entries_bytes a ++ entries_bytes b
 entries_bytes-append [] b = refl
@@ -29,28 +27,26 @@ first_ends : (test : Bool) (rest : Option Error) (e : Error) → cond test None 
 first_ends true rest e h = absurd cc
 first_ends false rest e h = h
 
-module _ (xs : List FieldEntry) (i : ℕ) (d : FieldEntry) (inside : i < length xs) where
-  abbrev x : FieldEntry
-  x = get_or xs i d
+-- a loop over values that stand for entries, at the next value
+module _ {X : Type 0} (entry : X → Entry) (xs : List X) (i : ℕ) (x : X) (inside : i < length xs) (is : x ≡ get_or xs i x) where
+  taken : map entry (take (i + 1) xs) ≡ map entry (take i xs) ++ entry x ∷ []
+  taken = rw (take_more xs i x inside, map-append) (ap (λ (t : X). map entry (take i xs) ++ entry t ∷ []) (sym is))
 
-  taken : entries_of (take (i + 1) xs) ≡ entries_of (take i xs) ++ entry_of x ∷ []
-  taken = rw (take_more xs i d inside, map-append) refl
-
-  parted : entries_of xs ≡ entries_of (take i xs) ++ entry_of x ∷ entries_of (drop (i + 1) xs)
+  parted : map entry xs ≡ map entry (take i xs) ++ entry x ∷ map entry (drop (i + 1) xs)
   parted =
-      ap entries_of (sym (take-append-drop (i + 1) xs)) ∙ map-append entry_of (take (i + 1) xs) (drop (i + 1) xs)
-      ∙ ap (λ t. t ++ entries_of (drop (i + 1) xs)) taken
-      ∙ append_assoc (entries_of (take i xs)) (entry_of x ∷ []) (entries_of (drop (i + 1) xs))
+      ap (map entry) (sym (take-append-drop (i + 1) xs)) ∙ map-append entry (take (i + 1) xs) (drop (i + 1) xs)
+      ∙ ap (λ t. t ++ map entry (drop (i + 1) xs)) taken
+      ∙ append_assoc (map entry (take i xs)) (entry x ∷ []) (map entry (drop (i + 1) xs))
 
-  pub joined_next : (old mid new : List ℕ) → mid ≡ old ++ entries_bytes (entries_of (take i xs)) → new ≡ mid ++ entry_bytes (entry_of x) → new ≡ old ++ entries_bytes (entries_of (take (i + 1) xs))
+  pub joined_next : (old mid new : List ℕ) → mid ≡ old ++ entries_bytes (map entry (take i xs)) → new ≡ mid ++ entry_bytes (entry x) → new ≡ old ++ entries_bytes (map entry (take (i + 1) xs))
   joined_next old mid new before here =
-      here ∙ ap (λ t. t ++ entry_bytes (entry_of x)) before ∙ append_assoc old (entries_bytes (entries_of (take i xs))) (entry_bytes (entry_of x))
-      ∙ ap (λ t. old ++ t) (ap (λ (t : List ℕ). entries_bytes (entries_of (take i xs)) ++ t) (sym (append-nil (entry_bytes (entry_of x)))) ∙ sym (entries_bytes-append (entries_of (take i xs)) (entry_of x ∷ [])) ∙ ap entries_bytes (sym taken))
+      here ∙ ap (λ t. t ++ entry_bytes (entry x)) before ∙ append_assoc old (entries_bytes (map entry (take i xs))) (entry_bytes (entry x))
+      ∙ ap (λ t. old ++ t) (ap (λ (t : List ℕ). entries_bytes (map entry (take i xs)) ++ t) (sym (append-nil (entry_bytes (entry x)))) ∙ sym (entries_bytes-append (map entry (take i xs)) (entry x ∷ [])) ∙ ap entries_bytes (sym taken))
 
-  pub whole_next : entries_end (entries_of (take i xs)) ≡ None → entries_end (entry_of x ∷ []) ≡ None → entries_end (entries_of (take (i + 1) xs)) ≡ None
-  whole_next before here = rw taken (entries_end-append (entries_of (take i xs)) (entry_of x ∷ []) before ∙ here)
+  pub whole_next : entries_end (map entry (take i xs)) ≡ None → entries_end (entry x ∷ []) ≡ None → entries_end (map entry (take (i + 1) xs)) ≡ None
+  whole_next before here = rw taken (entries_end-append (map entry (take i xs)) (entry x ∷ []) before ∙ here)
 
-  pub ends_here : (e : Error) → entries_end (entries_of (take i xs)) ≡ None → entries_end (entry_of x ∷ []) ≡ Some e → entries_end (entries_of xs) ≡ Some e
+  pub ends_here : (e : Error) → entries_end (map entry (take i xs)) ≡ None → entries_end (entry x ∷ []) ≡ Some e → entries_end (map entry xs) ≡ Some e
   ends_here e before here =
-      rw parted (entries_end-append (entries_of (take i xs)) (entry_of x ∷ entries_of (drop (i + 1) xs)) before
-      ∙ first_ends (nat_lt (entry_length (entry_of x)) (2 ^ 28)) (entries_end (entries_of (drop (i + 1) xs))) e here)
+      rw parted (entries_end-append (map entry (take i xs)) (entry x ∷ map entry (drop (i + 1) xs)) before
+      ∙ first_ends (nat_lt (entry_length (entry x)) (2 ^ 28)) (entries_end (map entry (drop (i + 1) xs))) e here)

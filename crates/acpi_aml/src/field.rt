@@ -67,7 +67,8 @@ impl Field {
     }
 }
 
-/// Writes entries at the end of a vector, in order (ACPI 6.5, 20.2.5.2). The error is `PkgLength` if an entry has 2^28 bits or more.
+/// Writes entries at the end of a vector, in order (ACPI 6.5, 20.2.5.2). The error is `PkgLength` if an entry has 2^28 bits or
+/// more.
 pub fn append_entries(entries: &[FieldEntry], bytes: &mut Vec<u8>) -> R<()>
     ensures ok { OnOk result (bytes.new.items ≡ bytes.old.items ++ entries_bytes (entries_of entries.now)) }
     ensures end { OnOk result (entries_end (entries_of entries.now) ≡ None) }

@@ -24,7 +24,7 @@ Known = List (List ℕ)
 
 -- ---- names that find an object
 
--- whether a segment finds an object in a scope, or in one of so many scopes around it
+-- whether a segment finds an object in a scope, or in one of this many scopes around it
 abbrev pub finds : ℕ → Known → List ℕ → List ℕ → Bool
 finds zero all scope segment = has all (scope ++ segment)
 finds (suc levels) all scope segment = has all (scope ++ segment) || finds levels all (parent scope) segment
@@ -82,7 +82,7 @@ made_items scope (def_bank_field name bank access lock update entries) children 
 made_items scope (op o) children = made_operand scope (named_by o) children
 made_items scope _ children = []
 
--- so many scopes around a path
+-- this many scopes around a path
 abbrev pub made_around : ℕ → List ℕ → List Item
 made_around zero path = []
 made_around (suc n) path = made (parent path) ∷ made_around n (parent path)
@@ -219,7 +219,7 @@ are_found all (used scope name kind args ∷ is) = is_found all scope name && ar
 abbrev pub own_found : Known → List ℕ → Head → Bool
 own_found all scope h = are_found all (scope_items scope h) && are_found all (other_items scope h)
 
--- Whether those that terms in a scope use do. Then there are no External statements (`found_silent`).
+-- Whether those that terms in a scope use do. Then there are no External statements (`block_silent`).
 abbrev pub all_found : Known → List ℕ → Terms → Bool
 all_found all scope end = true
 all_found all scope (term h w children others) =

@@ -5,7 +5,7 @@ use Rattle.acpi_term.specs.Tree.{Head, number, ones, string, local, arg, call, d
 use Rattle.acpi_term.specs.Tree.{def_method, def_power_res, def_field, def_op_region, def_name, def_mutex, def_acquire}
 use Rattle.acpi_term.specs.Tree.{def_release, def_buffer, def_package, def_var_package, def_if, def_while, def_else, op}
 use Rattle.acpi_term.specs.Tree.{def_external, def_leveled_method, def_processor, def_thermal_zone, def_roomy_package}
-use Rattle.acpi_term.specs.Tree.{def_index_field, def_bank_field, def_fatal, match_test, unread}
+use Rattle.acpi_term.specs.Tree.{def_index_field, def_bank_field, def_fatal, match_test, def_timeout, unread}
 use Rattle.acpi_asl.specs.Number.{hex, number_text, short_hex, string_text}
 use Rattle.acpi_asl.specs.Name.{asl_name}
 use Rattle.acpi_asl.specs.declared.word.Keyword.TheVariants.{AccessType, LockRule, UpdateRule}
@@ -48,6 +48,7 @@ head_word (def_index_field index name access lock update entries) w = codes "Ind
 head_word (def_bank_field name bank access lock update entries) w = codes "BankField"
 head_word (def_fatal kind code) w = codes "Fatal"
 head_word (match_test k) w = keyword_text MatchOperator k
+head_word (def_timeout t) w = hex 2 t
 head_word (unread error bytes) w = []
 
 -- a further argument
@@ -119,6 +120,7 @@ has_parentheses statement (call name) n = statement || nat_lt 0 n
 has_parentheses statement def_else n = false
 has_parentheses statement (op o) n = nat_lt 0 n
 has_parentheses statement (match_test k) n = false
+has_parentheses statement (def_timeout t) n = false
 has_parentheses statement _ n = true
 
 -- the parentheses up to the operands

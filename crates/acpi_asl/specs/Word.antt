@@ -78,6 +78,8 @@ operator_word op.Revision = codes "Revision"
 operator_word op.Debug = codes "Debug"
 operator_word op.Timer = codes "Timer"
 operator_word op.DataRegion = codes "DataTableRegion"
+operator_word op.Acquire = codes "Acquire"
+operator_word op.Release = codes "Release"
 
 -- ---- keywords of numbers (ACPI 6.5, 19.2.7)
 

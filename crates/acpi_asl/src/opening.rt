@@ -63,6 +63,7 @@ pub fn push_word(kind: Kind<'_>, width: u8, text: &mut String) -> Result<(), All
         Kind::BankField(..) => text.push_str("BankField"),
         Kind::Fatal(..) => text.push_str("Fatal"),
         Kind::MatchTest(code) => push_keyword(Keyword::MatchOperator, code, text),
+        Kind::Timeout(milliseconds) => push_hex(2, u64::from(milliseconds), text),
         Kind::Unread(..) => Ok(()),
     }
 }
@@ -343,6 +344,7 @@ pub fn push_own(kind: Kind<'_>, count: usize, text: &mut String) -> Result<(), A
         | Kind::While
         | Kind::Else
         | Kind::MatchTest(_)
+        | Kind::Timeout(_)
         | Kind::Unread(..)
         | Kind::Op(_) => Ok(()),
     }
@@ -355,7 +357,7 @@ pub fn has_parentheses(statement: bool, kind: Kind<'_>, count: usize) -> bool
     match kind {
         Kind::Number(_) | Kind::Ones | Kind::Text(_) | Kind::Local(_) | Kind::Arg(_) | Kind::Else =>
             false,
-        Kind::MatchTest(_) => false,
+        Kind::MatchTest(_) | Kind::Timeout(_) => false,
         Kind::Call(_) => statement || count > 0,
         Kind::Op(_) => count > 0,
         _ => true,

@@ -131,7 +131,19 @@ pub fn place_of(kind: Kind<'_>, count: usize) -> Place
         | Kind::Processor(..)
         | Kind::ThermalZone(_)
         | Kind::Else => in_place(0, false, 0, Body::Statements),
-        _ => in_place(0, false, 0, Body::Absent),
+        Kind::Number(_)
+        | Kind::Ones
+        | Kind::Text(_)
+        | Kind::Local(_)
+        | Kind::Arg(_)
+        | Kind::Timeout(_) => in_place(0, false, 0, Body::Absent),
+        Kind::Mutex(..) | Kind::Acquire(..) | Kind::Release(_) => in_place(
+            0,
+            false,
+            0,
+            Body::Absent,
+        ),
+        Kind::External(..) | Kind::Unread(..) => in_place(0, false, 0, Body::Absent),
     }
 }
 

@@ -107,6 +107,7 @@ fn after_own(room: usize, kind: Kind<'_>, width: u8) -> usize
         Kind::Op(op) => after_both(room, op.code(), 0),
         Kind::Buffer(bytes) | Kind::Unread(_, bytes) => after_both(room, bytes, 0),
         Kind::Fatal(..) => after_both(room, &[], 7),
+        Kind::Timeout(_) => after_both(room, &[], 2),
         Kind::Ones | Kind::Local(_) | Kind::Arg(_) | Kind::MatchTest(_) => after_both(room, &[], 1),
         Kind::Package | Kind::RoomyPackage(_) => after_both(room, &[], 1),
         Kind::VarPackage | Kind::If | Kind::While | Kind::Else => room,

@@ -80,6 +80,8 @@ pub fn operator_word(op: Op) -> &'static str
         Op::Debug => "Debug",
         Op::Timer => "Timer",
         Op::DataRegion => "DataTableRegion",
+        Op::Acquire => "Acquire",
+        Op::Release => "Release",
     }
 }
 

@@ -211,7 +211,8 @@ enum hyssop_update {
 
 /* The operators (20.2.5), by the names of ASL in upper case. The number is the opcode (20.3). Operands follow an operator in the
    order of 20.2.5, and its target after them. The integer 0 is no target. LNotEqual, LLessEqual and LGreaterEqual are LNOT and
-   then LEQUAL, LGREATER and LLESS. */
+   then LEQUAL, LGREATER and LLESS. ACQUIRE and RELEASE are those of an object that isn't a name, as Arg0. The timeout follows the
+   object as two bytes (`hyssop_bytes`). */
 enum hyssop_op {
     HYSSOP_OP_LNOT = 0x92, HYSSOP_OP_LEQUAL = 0x93, HYSSOP_OP_LLESS = 0x95, HYSSOP_OP_LGREATER = 0x94, HYSSOP_OP_LAND = 0x90,
     HYSSOP_OP_LOR = 0x91, HYSSOP_OP_INCREMENT = 0x75, HYSSOP_OP_DECREMENT = 0x76, HYSSOP_OP_BREAK = 0xa5,
@@ -228,7 +229,8 @@ enum hyssop_op {
     HYSSOP_OP_CONDREFOF = 0x5b12, HYSSOP_OP_LOADTABLE = 0x5b1f, HYSSOP_OP_LOAD = 0x5b20, HYSSOP_OP_STALL = 0x5b21,
     HYSSOP_OP_SLEEP = 0x5b22, HYSSOP_OP_SIGNAL = 0x5b24, HYSSOP_OP_WAIT = 0x5b25, HYSSOP_OP_RESET = 0x5b26,
     HYSSOP_OP_FROMBCD = 0x5b28, HYSSOP_OP_TOBCD = 0x5b29, HYSSOP_OP_UNLOAD = 0x5b2a, HYSSOP_OP_REVISION = 0x5b30,
-    HYSSOP_OP_DEBUG = 0x5b31, HYSSOP_OP_TIMER = 0x5b33, HYSSOP_OP_DATAREGION = 0x5b88
+    HYSSOP_OP_DEBUG = 0x5b31, HYSSOP_OP_TIMER = 0x5b33, HYSSOP_OP_DATAREGION = 0x5b88,
+    HYSSOP_OP_ACQUIRE = 0x5b23, HYSSOP_OP_RELEASE = 0x5b27
 };
 
 uint32_t hyssop_version(void);

@@ -1,8 +1,6 @@
 mod Spaces
 mod Found
 mod Noted
-mod Texts
-mod Ruled
 mod BlockTexts
 mod Located
 mod Seals

@@ -1,7 +1,8 @@
 -- Texts of tables.
 use Rattle.std.specs.Prelude.{◌≡◌, ◌⊎◌, ℕ, List}
 use Rattle.acpi_base.specs.Table.{IsTrueTable}
-use Rattle.acpi_forms.specs.Kind.{kind_of, IsTextBy}
+use Rattle.acpi_forms.specs.File.{IsFileText}
+use Rattle.acpi_forms.specs.Kind.{kind_of}
 use Rattle.acpi_make.specs.declared.file_kind.FileKind.{FileKind}
 use Rattle.acpi_make.specs.declared.file_kind.FileKind.TheVariants.{Rsdp, Facs, Cdat, S3pt, Table}
 use Rattle.acpi_text.specs.Reading.{bytes_of}
@@ -20,7 +21,7 @@ IsShowable Table bytes = IsTrueTable bytes
 -- The text shows the bytes, and determines them.
 pub record IsText (bytes text : List ℕ) : Type 0 where
   pub showable : IsShowable (kind_of bytes) bytes
-  pub is : IsTextBy (kind_of bytes) bytes text
+  pub is : IsFileText bytes text
   pub determines : bytes_of text ≡ bytes
 
 -- why there is no text: the bytes have no other signature and aren't a table, or memory ran out

@@ -1,30 +1,20 @@
 //! The rules of the standard that tables break.
 
-ghost use Rattle.std.specs.Prelude.{◌≡◌, ◌++◌, map, Some, None, IfOk, IfErr, OnOk, string_bytes};
-ghost use Rattle.acpi_base.specs.FurtherWalk.{table_walk_of};
-ghost use Rattle.acpi_forms.specs.FurtherNames.{cdat_names, s3pt_names};
-ghost use Rattle.acpi_forms.specs.Layout.{names_in};
-ghost use Rattle.acpi_forms.specs.Named.{Named, IsNamed, rsdp_names, facs_names};
-ghost use Rattle.acpi_forms.specs.Walks.{cdat_walk, s3pt_walk};
+ghost use Rattle.std.specs.Prelude.{◌≡◌, ◌++◌, map, IfOk, IfErr, OnOk, string_bytes};
+ghost use Rattle.acpi_forms.specs.File.{file_names};
+ghost use Rattle.acpi_forms.specs.Named.{IsNamed};
 ghost use Rattle.acpi_rules.specs.Finding.{noted};
-ghost use Rattle.acpi_c_calls.specs.Findings.{finding_line, finding_lines, AreLinesBy, AreFindings};
+ghost use Rattle.acpi_c_calls.specs.Findings.{finding_line, finding_lines, AreLinesOf, AreFindings};
 ghost use Rattle.acpi_c_calls.specs.Refused.{by_memory};
 ghost use Rattle.acpi_c_calls.specs.Results.{seen, IsOutcome, Gives};
 ghost use Rattle.acpi_c_calls.specs.Show.{IsTextRefusal};
 
 use crate::give::give;
 use crate::refused::Refused;
-use acpi_base::further_walk::table_walk_of;
-use acpi_base::walk::Walk;
-use acpi_forms::form::{facs_form, rsdp_form};
-use acpi_forms::further::cdat::{cdat_form, cdat_walk};
-use acpi_forms::further::s3pt::{s3pt_form, s3pt_walk};
-use acpi_forms::kind::{kind_of, title_of};
-use acpi_forms::layout::form_in;
-use acpi_make::file_kind::FileKind;
-use acpi_read::pieces::signature_number;
+use crate::show::check_showable;
+use acpi_forms::file::{file_form, file_walk};
+use acpi_forms::kind::title_of;
 use acpi_read::report::push_shown;
-use acpi_read::table::Table;
 use acpi_rules::finding::Finding;
 use acpi_rules::line::push_finding;
 use acpi_rules::standard::table_findings;
@@ -54,81 +44,22 @@ fn lines_of(alloc: Global, bytes: &[u8], findings: &[Finding<'_>]) -> Result<Str
     Ok(text)
 }
 
-// Returns the lines of the rules that bytes break by a form.
-fn lines_by(
-    alloc: Global,
-    form: &TableForm,
-    walk: Option<Walk>,
-    bytes: &[u8],
-) -> Result<Vec<u8>, Refused>
-    ensures ok { (names : Named) → IsNamed form.now names
-        → IfOk result (λ text. AreLinesBy names walk bytes.now text.items) }
+// Returns the lines of the rules that bytes break, by their form.
+fn lines_by(alloc: Global, form: &TableForm, bytes: &[u8]) -> Result<Vec<u8>, Refused>
+    ensures ok { IsNamed form.now (file_names bytes.now) → IfOk result (λ text. AreLinesOf bytes.now text.items) }
     ensures err { IfErr result (λ refused. refused ≡ by_memory) }
 {
-    let findings = table_findings(alloc, form, walk, bytes)?;
+    let findings = table_findings(alloc, form, file_walk(bytes), bytes)?;
     let text = lines_of(alloc, bytes, &findings)?;
     Ok(text.into_bytes())
-}
-
-// Returns the lines of the rules that a pointer breaks.
-fn pointer_lines(alloc: Global, bytes: &[u8]) -> Result<Vec<u8>, Refused>
-    ensures ok { IfOk result (λ text. AreLinesBy rsdp_names None bytes.now text.items) }
-    ensures err { IfErr result (λ refused. refused ≡ by_memory) }
-{
-    lines_by(alloc, &rsdp_form(), None, bytes)
-}
-
-// Returns the lines of the rules that a control structure breaks.
-fn control_lines(alloc: Global, bytes: &[u8]) -> Result<Vec<u8>, Refused>
-    ensures ok { IfOk result (λ text. AreLinesBy facs_names None bytes.now text.items) }
-    ensures err { IfErr result (λ refused. refused ≡ by_memory) }
-{
-    lines_by(alloc, &facs_form(), None, bytes)
-}
-
-// Returns the lines of the rules that a table of coherent devices breaks.
-fn coherent_lines(alloc: Global, bytes: &[u8]) -> Result<Vec<u8>, Refused>
-    ensures ok { IfOk result (λ text. AreLinesBy cdat_names (Some cdat_walk) bytes.now text.items) }
-    ensures err { IfErr result (λ refused. refused ≡ by_memory) }
-{
-    lines_by(alloc, &cdat_form(), Some(cdat_walk()), bytes)
-}
-
-// Returns the lines of the rules that a table of S3 performance breaks.
-fn performance_lines(alloc: Global, bytes: &[u8]) -> Result<Vec<u8>, Refused>
-    ensures ok { IfOk result (λ text. AreLinesBy s3pt_names (Some s3pt_walk) bytes.now text.items) }
-    ensures err { IfErr result (λ refused. refused ≡ by_memory) }
-{
-    lines_by(alloc, &s3pt_form(), Some(s3pt_walk()), bytes)
-}
-
-// Returns the lines of the rules that a table of a signature breaks.
-fn table_lines(alloc: Global, signature: u32, bytes: &[u8]) -> Result<Vec<u8>, Refused>
-    ensures ok { IfOk result (λ text. AreLinesBy (names_in signature bytes.now) (table_walk_of signature) bytes.now text.items) }
-    ensures err { IfErr result (λ refused. refused ≡ by_memory) }
-{
-    lines_by(
-        alloc,
-        &form_in(signature, bytes),
-        table_walk_of(signature),
-        bytes,
-    )
 }
 
 // Returns the lines of the rules that bytes break.
 fn found(alloc: Global, bytes: &[u8]) -> Result<Vec<u8>, Refused>
     ensures { IsOutcome (AreFindings bytes.now) (IsTextRefusal bytes.now) (seen (λ text. text.items) result) }
 {
-    match kind_of(bytes) {
-        FileKind::Rsdp => pointer_lines(alloc, bytes),
-        FileKind::Facs => control_lines(alloc, bytes),
-        FileKind::Cdat => coherent_lines(alloc, bytes),
-        FileKind::S3pt => performance_lines(alloc, bytes),
-        FileKind::Table => {
-            let table = Table::check(bytes)?;
-            table_lines(alloc, signature_number(&table), bytes)
-        }
-    }
+    check_showable(bytes)?;
+    lines_by(alloc, &file_form(bytes), bytes)
 }
 
 /// Writes the rules of the standard that a table breaks to `out`: a line for each, as `acpitool check` prints them after the name

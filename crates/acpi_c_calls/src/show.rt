@@ -1,28 +1,29 @@
 //! Texts of tables.
 
-ghost use Rattle.std.specs.Prelude.{◌≡◌, IfOk, IfErr, IsOk, OnOk, string_bytes};
+ghost use Rattle.std.specs.Prelude.{IfErr, OnOk};
 ghost use Rattle.acpi_c_calls.specs.Results.{seen, IsOutcome, Gives};
-ghost use Rattle.acpi_c_calls.specs.Refused.{by_memory};
-ghost use Rattle.acpi_c_calls.specs.Show.{IsText, IsTextRefusal};
+ghost use Rattle.acpi_c_calls.specs.Show.{IsShowable, IsText, IsTextRefusal};
+ghost use Rattle.acpi_forms.specs.Kind.{kind_of};
 
 use crate::give::give;
 use crate::refused::Refused;
-use acpi_base::error::R;
 use acpi_forms::kind::kind_of;
-use acpi_forms::show::{show as show_table, show_cdat, show_facs, show_rsdp, show_s3pt};
+use acpi_forms::show::show_file;
 use acpi_make::file_kind::FileKind;
 use acpi_read::table::Table;
-use std::alloc::{AllocError, Global};
+use std::alloc::Global;
 
-// Returns the bytes of a text, or that memory ran out, which is the only error of a text.
-fn bytes_of(text: R<String>) -> Result<Vec<u8>, Refused>
-    ensures ok { IfOk result (λ bytes. IfOk text (λ text. bytes.items ≡ string_bytes text)) }
-    ensures made { OnOk result (IsOk text) }
-    ensures err { IfErr result (λ refused. refused ≡ by_memory) }
+// Returns Ok if a table is right. Bytes without a standard header aren't checked.
+pub fn check_showable(bytes: &[u8]) -> Result<(), Refused>
+    ensures ok { OnOk result (IsShowable (kind_of bytes.now) bytes.now) }
+    ensures err { IfErr result (IsTextRefusal bytes.now) }
 {
-    match text {
-        Ok(text) => Ok(text.into_bytes()),
-        Err(_) => Err(Refused::from(AllocError)),
+    match kind_of(bytes) {
+        FileKind::Table => {
+            Table::check(bytes)?;
+            Ok(())
+        }
+        FileKind::Rsdp | FileKind::Facs | FileKind::Cdat | FileKind::S3pt => Ok(()),
     }
 }
 
@@ -30,16 +31,9 @@ fn bytes_of(text: R<String>) -> Result<Vec<u8>, Refused>
 fn shown(alloc: Global, bytes: &[u8]) -> Result<Vec<u8>, Refused>
     ensures { IsOutcome (IsText bytes.now) (IsTextRefusal bytes.now) (seen (λ text. text.items) result) }
 {
-    match kind_of(bytes) {
-        FileKind::Rsdp => bytes_of(show_rsdp(alloc, bytes)),
-        FileKind::Facs => bytes_of(show_facs(alloc, bytes)),
-        FileKind::Cdat => bytes_of(show_cdat(alloc, bytes)),
-        FileKind::S3pt => bytes_of(show_s3pt(alloc, bytes)),
-        FileKind::Table => {
-            let table = Table::check(bytes)?;
-            bytes_of(show_table(alloc, &table))
-        }
-    }
+    check_showable(bytes)?;
+    let text = show_file(alloc, bytes)?;
+    Ok(text.into_bytes())
 }
 
 /// Writes the text of a table to `out`, from which `make` makes the table again. `size` is the number of its bytes. A table has

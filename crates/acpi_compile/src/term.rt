@@ -10,7 +10,7 @@ use crate::fault::{AslError, Why, fault};
 use crate::name::name;
 use crate::node::{Node, list_of};
 use crate::sized::{Sized, SizedList, frame, number, plus};
-use crate::word::{byte_of, is_keyword, operator, operators};
+use crate::word::{byte_of, is_keyword, is_name, operator, operators};
 use acpi_asl::word::Keyword;
 use acpi_term::op::Op;
 use acpi_term::term::{FieldNames, Term};
@@ -396,6 +396,26 @@ fn test(
     })
 }
 
+// The object of an Acquire that isn't a name, and the timeout.
+#[cycle(term)]
+fn acquire_operands(
+    context: &Context,
+    depth: usize,
+    node: &Node<'_>,
+) -> Result<SizedList, AslError> {
+    let [object, timeout] = list_of(&node.arguments) else {
+        return Err(wrong(node));
+    };
+    let timeout = Sized {
+        term: Term::Timeout(word_at(timeout)?),
+        size: 2,
+    };
+    let mut list = SizedList::new(context.alloc);
+    list.add(term(context, depth, object)?)?;
+    list.add(timeout)?;
+    Ok(list)
+}
+
 #[cycle(term)]
 fn operands(
     context: &Context,
@@ -405,6 +425,9 @@ fn operands(
 ) -> Result<SizedList, AslError> {
     if op == Op::Match {
         return match_operands(context, depth, node);
+    }
+    if op == Op::Acquire {
+        return acquire_operands(context, depth, node);
     }
     let mut list = terms(context, depth, list_of(&node.arguments))?;
     // A last target may be left out.
@@ -453,6 +476,32 @@ fn call(context: &Context, depth: usize, node: &Node<'_>) -> Result<Sized, AslEr
     })
 }
 
+// Whether the first argument is a name.
+fn names_first(node: &Node<'_>) -> bool {
+    match list_of(&node.arguments) {
+        [first, ..] => is_name(first.word),
+        [] => false,
+    }
+}
+
+// An Acquire of a name, or of another object.
+#[cycle(term)]
+fn acquire_term(context: &Context, depth: usize, node: &Node<'_>) -> Result<Sized, AslError> {
+    if names_first(node) {
+        return acquire(context.alloc, node);
+    }
+    operator_term(context, depth, Op::Acquire, node)
+}
+
+// A Release of a name, or of another object.
+#[cycle(term)]
+fn release_term(context: &Context, depth: usize, node: &Node<'_>) -> Result<Sized, AslError> {
+    if names_first(node) {
+        return release(context.alloc, node);
+    }
+    operator_term(context, depth, Op::Release, node)
+}
+
 // ---- all of them
 
 #[cycle(term)]
@@ -468,8 +517,8 @@ fn keyword_term(context: &Context, depth: usize, node: &Node<'_>) -> Result<Size
         b"OperationRegion" => region(context, depth, node),
         b"External" => external(alloc, node),
         b"Mutex" => mutex(alloc, node),
-        b"Acquire" => acquire(alloc, node),
-        b"Release" => release(alloc, node),
+        b"Acquire" => acquire_term(context, depth, node),
+        b"Release" => release_term(context, depth, node),
         b"Processor" => processor(context, depth, node),
         b"PowerResource" => power_resource(context, depth, node),
         b"Package" => package(context, depth, node),

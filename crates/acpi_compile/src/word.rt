@@ -11,6 +11,14 @@ pub fn is_keyword(word: &[u8]) -> bool {
     word.iter().any(|c| c.is_ascii_lowercase())
 }
 
+/// Whether a word is a name: it is neither a keyword, nor a number or a text.
+pub fn is_name(word: &[u8]) -> bool {
+    match word {
+        [] | [b'"' | b'0'..=b'9', ..] => false,
+        _ => !is_keyword(word),
+    }
+}
+
 fn push_operator(code: &[u8], operators: &mut Vec<Op>) -> Result<(), AllocError> {
     if let Some(op) = Op::from_code(code) {
         operators.push(op)?;

@@ -57,7 +57,8 @@ first_bytes size int_model f = with_checksum (fields_joined (header_fields f) ++
 abbrev pub earlier_fadt_bytes : EarlierFADT → List ℕ
 earlier_fadt_bytes t = first_bytes (release_size t.release) t.int_model t.table
 
--- The table of an earlier release is valid: it has the release's size, contains its length and sums to zero. It has no structures.
+-- The table of an earlier release is valid: it has the release's size, contains its length and sums to zero. It has no
+-- structures.
 pub record IsValidEarlier (t : EarlierFADT) : Type 0 where
   pub valid : IsTrueTable (earlier_fadt_bytes t)
   pub size : length (earlier_fadt_bytes t) ≡ release_size t.release

@@ -1,14 +1,7 @@
--- What bytes are by their signature, and their text.
-use Rattle.std.specs.Prelude.{ℕ, nat_eq, ◌==◌, ◌&&◌, ◌||◌, not, Bool, List, take, if◌then◌else◌, codes, Some, None}
+-- What bytes are by their signature.
+use Rattle.std.specs.Prelude.{ℕ, nat_eq, ◌==◌, ◌&&◌, ◌||◌, not, Bool, List, take, if◌then◌else◌, codes}
 use Rattle.std.specs.List.{starts_with}
-use Rattle.acpi_base.specs.Bytes.{field_at}
-use Rattle.acpi_base.specs.FurtherWalk.{table_walk_of}
 use Rattle.acpi_base.specs.declared.walk.Place.TheVariants.{Byte, Word, DWord}
-use Rattle.acpi_forms.specs.FurtherNames.{cdat_names, s3pt_names}
-use Rattle.acpi_forms.specs.Layout.{names_in}
-use Rattle.acpi_forms.specs.Named.{rsdp_names, facs_names}
-use Rattle.acpi_forms.specs.Shows.{IsTextOf}
-use Rattle.acpi_forms.specs.Walks.{cdat_walk, s3pt_walk}
 use Rattle.acpi_make.specs.declared.file_kind.FileKind.{FileKind}
 use Rattle.acpi_make.specs.declared.file_kind.FileKind.TheVariants.{Rsdp, Facs, Cdat, S3pt, Table}
 use Rattle.acpi_text.specs.Form.{number_at}
@@ -39,11 +32,3 @@ title_by kind bytes = take 4 bytes
 
 abbrev pub title_of : List ℕ → List ℕ
 title_of bytes = title_by (kind_of bytes) bytes
-
--- the text of bytes of a kind
-abbrev pub IsTextBy : FileKind → List ℕ → List ℕ → Type 0
-IsTextBy Rsdp bytes text = IsTextOf rsdp_names None bytes text
-IsTextBy Facs bytes text = IsTextOf facs_names None bytes text
-IsTextBy Cdat bytes text = IsTextOf cdat_names (Some cdat_walk) bytes text
-IsTextBy S3pt bytes text = IsTextOf s3pt_names (Some s3pt_walk) bytes text
-IsTextBy Table bytes text = IsTextOf (names_in (field_at 0 4 bytes) bytes) (table_walk_of (field_at 0 4 bytes)) bytes text

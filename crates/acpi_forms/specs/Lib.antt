@@ -13,6 +13,7 @@ pub mod Named
 pub mod Layout
 pub mod Shows
 pub mod Kind
+pub mod File
 pub mod Makes
 pub mod Words
 pub mod Known

@@ -3,7 +3,6 @@ use Rattle.std.specs.Prelude.{◌≡◌, ℕ, ◌==◌, ◌&&◌, not, Bool, tru
 use Rattle.std.specs.Prelude.{None, Result, Ok, Err}
 use Rattle.acpi_base.specs.Bytes.{carried}
 use Rattle.acpi_base.specs.Walk.{named}
-use Rattle.acpi_base.specs.FurtherWalk.{table_walk_of}
 use Rattle.acpi_base.specs.declared.walk.Walk.{Walk}
 use Rattle.acpi_make.specs.Gives.{Gives}
 use Rattle.acpi_make.specs.Made.{type_place, made, table_of}
@@ -21,12 +20,11 @@ use Rattle.acpi_make.specs.declared.fault.Wanted.TheVariants as wanted
 use Rattle.acpi_make.specs.declared.item.Item.{Item}
 use Rattle.acpi_make.specs.declared.make.Made.{Made}
 use Rattle.acpi_text.specs.declared.form.TableForm.{TableForm}
-use Rattle.acpi_forms.specs.FurtherNames.{cdat_names, s3pt_names}
+use Rattle.acpi_forms.specs.File.{names_by, walk_by}
 use Rattle.acpi_forms.specs.Layout.{names_of_text}
-use Rattle.acpi_forms.specs.Named.{Named, IsNamed, names_of, rsdp_names, facs_names}
-use Rattle.acpi_forms.specs.Walks.{cdat_walk, s3pt_walk}
+use Rattle.acpi_forms.specs.Named.{Named, IsNamed, names_of}
 
--- ---- the form, the kind of file, the form and the walk of a signature
+-- ---- the kind of file, by its signature
 
 -- a pointer (ACPI 6.5, 5.2.5.3), a control structure (5.2.10), a table of S3 performance (5.2.24), or a table with the standard
 -- header (5.2.6)
@@ -47,28 +45,6 @@ text_kind text parts signature =
 abbrev pub template_kind : ℕ → FileKind
 template_kind signature = if signature == named (codes "CDAT") then Cdat else file_kind_of signature
 
-abbrev pub names_by : FileKind → ℕ → Named
-names_by Table signature = names_of signature
-names_by Rsdp signature = rsdp_names
-names_by Facs signature = facs_names
-names_by Cdat signature = cdat_names
-names_by S3pt signature = s3pt_names
-
--- the same of the table of a text, which may have another layout
-abbrev pub names_by_text : FileKind → ℕ → List ℕ → List Item → Named
-names_by_text Table signature text parts = names_of_text signature text parts
-names_by_text Rsdp signature text parts = rsdp_names
-names_by_text Facs signature text parts = facs_names
-names_by_text Cdat signature text parts = cdat_names
-names_by_text S3pt signature text parts = s3pt_names
-
-abbrev pub walk_by : FileKind → ℕ → Option Walk
-walk_by Table signature = table_walk_of signature
-walk_by Rsdp signature = None
-walk_by Facs signature = None
-walk_by Cdat signature = Some cdat_walk
-walk_by S3pt signature = Some s3pt_walk
-
 -- a text whose signature isn't stated has that of no table
 abbrev pub signature_or_none : Option ℕ → ℕ
 signature_or_none (Some signature) = signature
@@ -88,7 +64,7 @@ pub record IsMadeBy (names : Named) (walk : Option Walk) (file_kind : FileKind) 
 abbrev pub IsMadeAs : ℕ → List ℕ → List Item → Result Made MakeError → Type 0
 IsMadeAs signature text parts result =
     let kind = text_kind text parts signature in
-    IsMadeBy (names_by_text kind signature text parts) (walk_by kind signature) kind text parts result
+    IsMadeBy (names_by kind (names_of_text signature text parts)) (walk_by kind signature) kind text parts result
 
 abbrev pub IsRefused : Fault → Result Made MakeError → Type 0
 IsRefused wrong result = Gives {B = Made} (λ made. made) result (Err wrong)
@@ -125,6 +101,6 @@ signature_text S3pt signature = signature
 -- a template of a signature, by a form that has its names
 pub record IsTemplateOf (signature text : List ℕ) : Type 0 where
   pub form : TableForm
-  pub is_named : IsNamed form (names_by (template_kind (carried signature)) (carried signature))
+  pub is_named : IsNamed form (names_by (template_kind (carried signature)) (names_of (carried signature)))
   pub is : text ≡ template_text (signature_text (template_kind (carried signature)) signature)
       (template_kind (carried signature)) form (walk_by (template_kind (carried signature)) (carried signature))

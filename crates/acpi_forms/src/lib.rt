@@ -2,6 +2,7 @@
 #![tactic(auto)]
 
 pub mod arm;
+pub mod file;
 pub mod fixed;
 pub mod form;
 pub mod further;

@@ -2,16 +2,12 @@
 
 ghost use Rattle.std.specs.Prelude.{◌≡◌, ◌≢◌, length, string_bytes, IfOk, MatchOption};
 ghost use Rattle.acpi_base.specs.Bytes.{carried};
-ghost use Rattle.acpi_forms.specs.Makes.{file_kind_of, text_kind, names_by, names_by_text, walk_by, IsMadeAs, IsMade};
+ghost use Rattle.acpi_forms.specs.Makes.{file_kind_of, text_kind, IsMadeAs, IsMade};
 ghost use Rattle.acpi_forms.specs.Makes.{template_kind, signature_text, IsTemplateOf};
-ghost use Rattle.acpi_forms.specs.Named.{IsNamed};
 
-use crate::form::{facs_form, form_of, rsdp_form};
-use crate::further::cdat::{cdat_form, cdat_walk};
-use crate::further::s3pt::{s3pt_form, s3pt_walk};
+use crate::file::{form_by, walk_by};
+use crate::form::form_of;
 use crate::layout::form_of_text;
-use acpi_base::further_walk::table_walk_of;
-use acpi_base::walk::Walk;
 use acpi_make::fault::{Fault, MakeError, Wanted};
 use acpi_make::file_kind::FileKind;
 use acpi_make::item::{Item, has_bytes};
@@ -19,7 +15,6 @@ use acpi_make::make::{Made, make_of};
 use acpi_make::read::read_text;
 use acpi_make::signature::{begins_with_length, has_line, signature_of};
 use acpi_make::template::template_of;
-use acpi_text::form::TableForm;
 use std::alloc::{AllocError, Global};
 
 // Returns what a signature is that of.
@@ -59,49 +54,12 @@ fn template_kind(signature: u32) -> FileKind
     }
 }
 
-fn form_by(file_kind: FileKind, signature: u32) -> TableForm
-    ensures { IsNamed result (names_by file_kind signature) }
-{
-    match file_kind {
-        FileKind::Table => form_of(signature),
-        FileKind::Rsdp => rsdp_form(),
-        FileKind::Facs => facs_form(),
-        FileKind::Cdat => cdat_form(),
-        FileKind::S3pt => s3pt_form(),
-    }
-}
-
-// Returns the form of the table of a text of a kind.
-fn form_by_text(file_kind: FileKind, signature: u32, text: &[u8], items: &[Item]) -> TableForm
-    ensures { IsNamed result (names_by_text file_kind signature text.now items.now) }
-{
-    match file_kind {
-        FileKind::Table => form_of_text(signature, text, items),
-        FileKind::Rsdp => rsdp_form(),
-        FileKind::Facs => facs_form(),
-        FileKind::Cdat => cdat_form(),
-        FileKind::S3pt => s3pt_form(),
-    }
-}
-
-fn walk_by(file_kind: FileKind, signature: u32) -> Option<Walk>
-    ensures { result ≡ walk_by file_kind signature }
-{
-    match file_kind {
-        FileKind::Table => table_walk_of(signature),
-        FileKind::Rsdp => None,
-        FileKind::Facs => None,
-        FileKind::Cdat => Some(cdat_walk()),
-        FileKind::S3pt => Some(s3pt_walk()),
-    }
-}
-
 // Returns the table of a text by its kind, its signature and its layout.
 fn make_as(alloc: Global, signature: u32, text: &[u8], items: &[Item]) -> Result<Made, MakeError>
     ensures { IsMadeAs signature text.now items.now result }
 {
     let file_kind = text_kind(text, items, signature);
-    let form = form_by_text(file_kind, signature, text, items);
+    let form = form_by(file_kind, form_of_text(signature, text, items));
     let walk = walk_by(file_kind, signature);
     make_of(alloc, form, walk, file_kind, text, items)
 }
@@ -162,7 +120,7 @@ pub fn template(alloc: Global, signature: &str) -> Result<Option<String>, AllocE
         return Ok(None);
     };
     let file_kind = template_kind(number);
-    let form = form_by(file_kind, number);
+    let form = form_by(file_kind, form_of(number));
     let walk = walk_by(file_kind, number);
     let first = signature_text(file_kind, signature);
     Ok(Some(template_of(alloc, first, file_kind, &form, walk)?))

@@ -1,20 +1,17 @@
 //! The texts of tables and records, by their forms.
 
-ghost use Rattle.std.specs.Prelude.{◌≡◌, Some, None, IfOk, IfErr, string_bytes};
+ghost use Rattle.std.specs.Prelude.{◌≡◌, None, IfOk, IfErr, string_bytes};
 ghost use Rattle.acpi_base.specs.Bytes.{field_at};
 ghost use Rattle.acpi_base.specs.FurtherWalk.{table_walk_of};
 ghost use Rattle.acpi_base.specs.declared.error.Error.TheVariants.{Memory};
-ghost use Rattle.acpi_forms.specs.FurtherNames.{cdat_names, s3pt_names};
+ghost use Rattle.acpi_forms.specs.File.{IsFileText};
 ghost use Rattle.acpi_forms.specs.Layout.{names_in};
-ghost use Rattle.acpi_forms.specs.Named.{rsdp_names, facs_names};
+ghost use Rattle.acpi_forms.specs.Named.{Named, IsNamed, rsdp_names, facs_names};
 ghost use Rattle.acpi_forms.specs.Shows.{IsTextOf};
-ghost use Rattle.acpi_forms.specs.Walks.{cdat_walk, s3pt_walk};
 ghost use Rattle.acpi_text.specs.Reading.{bytes_of};
-ghost use Rattle.acpi_text.specs.Table.{table_text};
 
+use crate::file::{file_form, file_walk};
 use crate::form::{facs_form, rsdp_form};
-use crate::further::cdat::{cdat_form, cdat_walk};
-use crate::further::s3pt::{s3pt_form, s3pt_walk};
 use crate::layout::form_in;
 use acpi_base::error::R;
 use acpi_base::further_walk::table_walk_of;
@@ -23,15 +20,31 @@ use acpi_read::pieces::signature_number;
 use acpi_read::table::Table;
 use acpi_text::form::TableForm;
 use acpi_text::table::show_by;
-use std::alloc::Global;
+use std::alloc::{AllocError, Global};
 
 // Returns the text of bytes by a form.
+fn shown_by(
+    alloc: Global,
+    form: &TableForm,
+    walk: Option<Walk>,
+    bytes: &[u8],
+) -> Result<String, AllocError>
+    ensures text { (names : Named) → IsNamed form.now names
+        → IfOk result (λ text. IsTextOf names walk bytes.now (string_bytes text)) }
+    ensures bytes { IfOk result (λ text. bytes_of (string_bytes text) ≡ bytes.now) }
+{
+    let text = show_by(alloc, form, walk, bytes)?;
+    Ok(text)
+}
+
+// Returns the same with the errors of this library, of which Memory is the only one.
 fn text_by(alloc: Global, form: &TableForm, walk: Option<Walk>, bytes: &[u8]) -> R<String>
-    ensures text { IfOk result (λ text. string_bytes text ≡ table_text form.now walk bytes.now) }
+    ensures text { (names : Named) → IsNamed form.now names
+        → IfOk result (λ text. IsTextOf names walk bytes.now (string_bytes text)) }
     ensures bytes { IfOk result (λ text. bytes_of (string_bytes text) ≡ bytes.now) }
     ensures err { IfErr result (λ e. e ≡ Memory) }
 {
-    Ok(show_by(alloc, form, walk, bytes)?)
+    Ok(shown_by(alloc, form, walk, bytes)?)
 }
 
 /// Returns the text of a table: its name, a line for each field and each structure, and all other bytes in lines of sixteen.
@@ -71,20 +84,11 @@ pub fn show_facs(alloc: Global, bytes: &[u8]) -> R<String>
     text_by(alloc, &facs_form(), None, bytes)
 }
 
-/// Returns the text of a Coherent Device Attribute Table (CDAT 1.03). The only error is Memory.
-pub fn show_cdat(alloc: Global, bytes: &[u8]) -> R<String>
-    ensures text { IfOk result (λ text. IsTextOf cdat_names (Some cdat_walk) bytes.now (string_bytes text)) }
+/// Returns the text of what a file contains, by its signature: a table, or one of the tables without a standard header. The text
+/// determines the bytes.
+pub fn show_file(alloc: Global, bytes: &[u8]) -> Result<String, AllocError>
+    ensures text { IfOk result (λ text. IsFileText bytes.now (string_bytes text)) }
     ensures bytes { IfOk result (λ text. bytes_of (string_bytes text) ≡ bytes.now) }
-    ensures err { IfErr result (λ e. e ≡ Memory) }
 {
-    text_by(alloc, &cdat_form(), Some(cdat_walk()), bytes)
-}
-
-/// Returns the text of an S3 Performance Table (ACPI 6.5, 5.2.24). The only error is Memory.
-pub fn show_s3pt(alloc: Global, bytes: &[u8]) -> R<String>
-    ensures text { IfOk result (λ text. IsTextOf s3pt_names (Some s3pt_walk) bytes.now (string_bytes text)) }
-    ensures bytes { IfOk result (λ text. bytes_of (string_bytes text) ≡ bytes.now) }
-    ensures err { IfErr result (λ e. e ≡ Memory) }
-{
-    text_by(alloc, &s3pt_form(), Some(s3pt_walk()), bytes)
+    shown_by(alloc, &file_form(bytes), file_walk(bytes), bytes)
 }

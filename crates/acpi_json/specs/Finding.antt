@@ -8,7 +8,8 @@ use Rattle.acpi_rules.specs.Finding.{Finding}
 use Rattle.acpi_rules.specs.Line.{severity, rule_name}
 use Rattle.acpi_rules.specs.declared.finding.Rule.{Rule}
 use Rattle.acpi_rules.specs.declared.finding.Rule.TheVariants.{ReservedBytes, ReservedBits, ReservedValue, StructureLength, Range}
-use Rattle.acpi_rules.specs.declared.finding.Rule.TheVariants.{Unique, Overlap, AtMost, Count, Pair, Cycle, Distance, Multiple, Below}
+use Rattle.acpi_rules.specs.declared.finding.Rule.TheVariants.{Unique, Overlap, AtMost, Count, Pair}
+use Rattle.acpi_rules.specs.declared.finding.Rule.TheVariants.{Cycle, Distance, Multiple, Below}
 
 -- a number of eight bytes
 unfoldable pub word : ℕ → List ℕ
@@ -26,8 +27,8 @@ range least most = member (codes ",\"least\":") least ++ member (codes ",\"most\
 abbrev pub other_member : List ℕ → List ℕ
 other_member other = codes ",\"other\":" ++ string other
 
--- the member with the number of a rule on two fields: the offset of the part with the same number, the other field's number, or the
--- number below which the field's own has to be
+-- the member with the number of a rule on two fields: the offset of the part with the same number, the other field's number, or
+-- the number below which the field's own has to be
 abbrev pub other_number : Rule → ℕ → List ℕ
 other_number Overlap n = member (codes ",\"also_at\":") n
 other_number AtMost n = member (codes ",\"other_value\":") n

@@ -48,8 +48,8 @@ part_of range = part range.address range.bytes.now
 abbrev pub holds : Range → ℕ → Bool
 holds range address = nat_le range.address address && nat_lt address (range.address + length range.bytes.now)
 
--- Memory of ranges: an address is looked up in the first range that holds it. If none does, nothing lies there, neither in no range
--- nor in the last one.
+-- Memory of ranges: an address is looked up in the first range that holds it. If none does, nothing lies there, neither in no
+-- range nor in the last one.
 abbrev pub memory_of : List Range → Space
 memory_of [] = image_at 0 []
 memory_of (range ∷ []) = λ address. part_of range

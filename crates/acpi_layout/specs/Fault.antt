@@ -121,7 +121,8 @@ pub data IsOverlap (tables : List Located) : ImageFault → Type 0 where
 -- The memory has no tables that an XSDT or an RSDT lists (`HasTablesOf`): the step that fails, and what is found before it.
 pub data HasFaultOf (root : Root) (memory : Space) (rsdp : ℕ) : ImageFault → Type 0 where
   memory_has_no_listing : {e : ImageFault} → IsRootFault root memory rsdp e → HasFaultOf root memory rsdp e
-  memory_has_no_entries : {e : ImageFault} (listing : Located) → IsRoot root memory rsdp listing → IsEntriesFault root memory listing e
+  memory_has_no_entries : {e : ImageFault} (listing : Located) → IsRoot root memory rsdp listing
+      → IsEntriesFault root memory listing e
       → HasFaultOf root memory rsdp e
   memory_has_no_fadt : {e : ImageFault} (listing : Located) (entries : List Located) → IsRoot root memory rsdp listing
       → AreEntriesOf root memory listing entries → IsFadtFault (least_fadt root) listing.address entries e

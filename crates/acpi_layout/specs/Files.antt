@@ -21,7 +21,8 @@ has signature file = starts_with nat_eq file signature
 abbrev pub named : List ℕ → List (List ℕ) → List (List ℕ)
 named signature files = filter (has signature) files
 
--- Whether a file is a table that the XSDT lists besides the FADT (5.2.8). An RSDP, an RSDT and an XSDT are those of another image.
+-- Whether a file is a table that the XSDT lists besides the FADT (5.2.8). An RSDP, an RSDT and an XSDT are those of another
+-- image.
 abbrev pub is_other : List ℕ → Bool
 is_other file =
     not (has (codes "FACS") file || has (codes "DSDT") file || has (codes "FACP") file

@@ -1,6 +1,7 @@
 -- The tables that an operating system finds from the RSDP on (ACPI 6.5, 5.2.5 to 5.2.10).
 use Rattle.std.specs.Prelude.{◌≡◌, ℕ, ◌+◌, ◌*◌, ◌/◌, ◌%◌, ◌^◌, ◌<◌, ◌≤◌, List, [], ◌∷◌, ◌++◌, length, sum, take, codes}
-use Rattle.std.specs.Prelude.{slice_index, slice_index_or, nat_lt, ◌⊎◌, ◌==◌, ◌&&◌, Bool, true, false, if◌then◌else◌, Option, Some, None}
+use Rattle.std.specs.Prelude.{slice_index, slice_index_or, nat_lt, ◌⊎◌, ◌==◌, ◌&&◌, Bool, true, false}
+use Rattle.std.specs.Prelude.{if◌then◌else◌, Option, Some, None}
 use Rattle.std.specs.List.{All}
 use Rattle.acpi_base.specs.Bytes.{field_at}
 use Rattle.acpi_base.specs.Table.{IsTrueTable}
@@ -28,8 +29,8 @@ pub record IsTableAt (memory : Space) (address : ℕ) (table : Located) : Type 0
 
 -- ---- each table
 
--- The RSDP of revision 2 at this address (5.2.5.3). The checksum at offset 8 is that of the first 20 bytes, and the one at 32 that
--- of all.
+-- The RSDP of revision 2 at this address (5.2.5.3). The checksum at offset 8 is that of the first 20 bytes, and the one at 32
+-- that of all.
 pub record IsPointer (memory : Space) (address : ℕ) (rsdp : Located) : Type 0 where
   pub whole : LiesIn memory address 36
   pub is : rsdp ≡ located memory address 36
@@ -84,8 +85,8 @@ abbrev pub entry_width : Root → ℕ
 entry_width Xsdt = 8
 entry_width Rsdt = 4
 
--- The least length of a FADT: an XSDT lists one whose fields go up to X_DSDT, which ends at 148, and an RSDT one whose fields go up
--- to Flags, which ends at 116.
+-- The least length of a FADT: an XSDT lists one whose fields go up to X_DSDT, which ends at 148, and an RSDT one whose fields go
+-- up to Flags, which ends at 116.
 abbrev pub least_fadt : Root → ℕ
 least_fadt Xsdt = 148
 least_fadt Rsdt = 116
@@ -94,7 +95,8 @@ least_fadt Rsdt = 116
 pub record AreEntriesOf (root : Root) (memory : Space) (listing : Located) (entries : List Located) : Type 0 where
   pub counted : listing.length ≡ 36 + entry_width root * length entries
   pub each : (i : ℕ) (d : Located) → i < length entries
-      → IsTableAt memory (field_at (36 + entry_width root * i) (entry_width root) (contents memory listing)) (slice_index_or entries i d)
+      → IsTableAt memory (field_at (36 + entry_width root * i) (entry_width root) (contents memory listing))
+      (slice_index_or entries i d)
 
 -- The FADT (5.2.9) is the only one of these tables that has its signature, and it has at least this length.
 pub record IsOnlyFadt (least : ℕ) (tables : List Located) (fadt : Located) : Type 0 where
@@ -194,8 +196,8 @@ pub record Found (root : Root) (memory : Space) (rsdp : ℕ) : Type 0 where
 abbrev pub tables_of : {root : Root} {memory : Space} {rsdp : ℕ} → Found root memory rsdp → List Located
 tables_of found = found.pointer ∷ found.listing ∷ (found.entries ++ (if_found found.facs ++ (found.dsdt ∷ [])))
 
--- This memory has these tables: they are found. Each with the standard header has its length and sums to zero, and no two overlap,
--- so none is listed twice.
+-- This memory has these tables: they are found. Each with the standard header has its length and sums to zero, and no two
+-- overlap, so none is listed twice.
 pub record HasTablesOf (root : Root) (memory : Space) (rsdp : ℕ) (tables : List Located) : Type 0 where
   pub found : Found root memory rsdp
   pub listed : tables ≡ tables_of found

@@ -65,11 +65,12 @@ fn check_memory_of(
     Ok(tables)
 }
 
-/// Checks the tables in memory, as an operating system finds them. The RSDP is at the address `rsdp`. The RSDP (ACPI 6.5, 5.2.5.3)
-/// of revision 2 points to the XSDT (5.2.8), and its entries to the FADT and the others. X_FIRMWARE_CTRL of the FADT (5.2.9) points
-/// to the FACS (5.2.10), and X_DSDT to the DSDT. Where such a field of 64 bits is 0, the field of 32 bits counts, FIRMWARE_CTRL or
-/// DSDT. There is no FACS if both are 0 and the FADT's flag HW_REDUCED_ACPI is set. Each table is in one range with its whole
-/// length, the first that holds its first byte. It sums to zero, except the FACS, which has no checksum. No two overlap.
+/// Checks the tables in memory, as an operating system finds them. The RSDP is at the address `rsdp`. The RSDP (ACPI 6.5,
+/// 5.2.5.3) of revision 2 points to the XSDT (5.2.8), and its entries to the FADT and the others. X_FIRMWARE_CTRL of the FADT
+/// (5.2.9) points to the FACS (5.2.10), and X_DSDT to the DSDT. Where such a field of 64 bits is 0, the field of 32 bits counts,
+/// FIRMWARE_CTRL or DSDT. There is no FACS if both are 0 and the FADT's flag HW_REDUCED_ACPI is set. Each table is in one range
+/// with its whole length, the first that holds its first byte. It sums to zero, except the FACS, which has no checksum. No two
+/// overlap.
 ///
 /// Firmware also has to put the RSDP at a multiple of 16 (5.2.5.1), and the FACS at a multiple of 64 (5.2.10). Both are accepted
 /// at any address.
@@ -111,8 +112,8 @@ pub fn check_image_of(
     check_memory_of(alloc, root, &[range], rsdp)
 }
 
-/// Checks the tables of an image, as `check_memory` those of memory. The bytes begin at the physical address `base`, and the RSDP is
-/// at the address `rsdp`.
+/// Checks the tables of an image, as `check_memory` those of memory. The bytes begin at the physical address `base`, and the RSDP
+/// is at the address `rsdp`.
 pub fn check_image(
     alloc: Global,
     bytes: &[u8],

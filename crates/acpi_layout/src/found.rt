@@ -234,7 +234,8 @@ pub(crate) fn dsdt(root: Root, ranges: &[Range<'_>], fadt: Located) -> Result<Lo
     ensures ok { IfOk result (λ dsdt.
         IsNamedTableAt (memory_of ranges.now) (codes "DSDT") (dsdt_address root (contents (memory_of ranges.now) fadt)) dsdt) }
     ensures err { OnErr result ((dsdt : Located)
-        → ¬ IsNamedTableAt (memory_of ranges.now) (codes "DSDT") (dsdt_address root (contents (memory_of ranges.now) fadt)) dsdt) }
+        → ¬ IsNamedTableAt (memory_of ranges.now) (codes "DSDT")
+        (dsdt_address root (contents (memory_of ranges.now) fadt)) dsdt) }
     ensures fault { IfErr result
         (IsNamedTableFault (memory_of ranges.now) (codes "DSDT") (dsdt_address root (contents (memory_of ranges.now) fadt))) }
 {

@@ -88,8 +88,8 @@ fn loader_of_image(alloc: Global, files: &[Vec<u8>], image: &Image) -> Result<Lo
 }
 
 /// Returns the files that QEMU hands to firmware, which takes memory for the tables and does the commands. The tables are those
-/// of `lay_files` for the address 0, without their RSDP, which is a file of its own. The checksums of the FADT, of the XSDT and of
-/// the RSDP are 0. A file is what its first four bytes say, as for `lay_files`.
+/// of `lay_files` for the address 0, without their RSDP, which is a file of its own. The checksums of the FADT, of the XSDT and
+/// of the RSDP are 0. A file is what its first four bytes say, as for `lay_files`.
 ///
 /// The error is that of `lay_files` for the address 0, or `TooLarge`.
 pub fn loader_of(alloc: Global, files: &[Vec<u8>]) -> Result<Loader, LoaderFault>

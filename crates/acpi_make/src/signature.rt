@@ -35,8 +35,8 @@ pub fn signature_of(items: &[Item]) -> Option<u32>
     Some(u32::from_le_bytes([a, b, c, d]))
 }
 
-/// Returns whether the first line of a text is that of a field with the name `Length`. The first field of every other table is its
-/// signature.
+/// Returns whether the first line of a text is that of a field with the name `Length`. The first field of every other table is
+/// its signature.
 pub fn begins_with_length(text: &[u8], items: &[Item]) -> bool
     ensures { result ≡ begins_with_length text.now items.now }
 {

@@ -107,7 +107,7 @@ field_lists_mean a l u xs entries are named =
       field = λ region p. record {
         spells = λ arity m ts place spell h.
             rows_mean_in (grammar_of Standard arity) m (def_field region (access_number a) (lock_number l) (update_number u) entries) [] ts place refl
-            (p, access_small a, lock_small l, update_small u, named) s.least spell h;
+            (p, access_small a, lock_small l, update_small u, named) s.least tt spell h;
       };
       index_is = λ index name.
           rows_same (λ bytes. framed (0x5b ∷ 0x86 ∷ []) (index ++ (name ++ flags ∷ bytes)) []) [] (entries_bytes (elements_of xs)) (entries_bytes entries)
@@ -115,7 +115,7 @@ field_lists_mean a l u xs entries are named =
       index = λ index name p q. record {
         spells = λ arity m ts place spell h.
             rows_mean_in (grammar_of Standard arity) m (def_index_field index name (access_number a) (lock_number l) (update_number u) entries) [] ts place refl
-            (refl, p, q, access_small a, lock_small l, update_small u, named) s.least spell h;
+            (refl, p, q, access_small a, lock_small l, update_small u, named) s.least tt spell h;
       };
       bank_is = λ region bank value.
           rows_same (λ bytes. framed (0x5b ∷ 0x87 ∷ []) (region ++ bank) (flags ∷ bytes)) (value ∷ []) (entries_bytes (elements_of xs)) (entries_bytes entries)
@@ -123,6 +123,6 @@ field_lists_mean a l u xs entries are named =
       bank = λ region bank value p q. record {
         spells = λ arity m ts place spell h.
             rows_mean_in (grammar_of Standard arity) m (def_bank_field region bank (access_number a) (lock_number l) (update_number u) entries) (value ∷ []) ts place refl
-            (refl, p, q, access_small a, lock_small l, update_small u, named) s.least spell h;
+            (refl, p, q, access_small a, lock_small l, update_small u, named) s.least tt spell h;
       };
     }

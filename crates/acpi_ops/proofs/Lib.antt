@@ -1,6 +1,5 @@
 pub mod Built
 pub mod Bytes
-pub mod Elements
 pub mod FieldLists
 pub mod Items
 pub mod Meanings

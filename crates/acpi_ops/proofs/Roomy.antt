@@ -19,7 +19,7 @@ roomy_packages_mean room objects small = record {
   is = λ other. let h : eqb (length objects) room ≡ false = ne_eqb (length objects) room other in rw h refl;
   full = λ same. let h = same_number (length objects) room same in rw h refl;
   means = record {
-    spells = λ arity m ts place spell h. rows_mean_in (grammar_of Standard arity) m (def_roomy_package room) objects ts place tt (refl, small) tt spell h;
+    spells = λ arity m ts place spell h. rows_mean_in (grammar_of Standard arity) m (def_roomy_package room) objects ts place tt (refl, small) tt tt spell h;
   };
 }
 
@@ -33,6 +33,6 @@ leveled_methods_mean path args serialized objects = record {
       let flags : method_flags args serialized + 16 * 0 ≡ method_flags args serialized = omega arith in
       ap (λ (n : ℕ). ended (own (def_method path args serialized) (length objects)) (around (framed (0x14 ∷ []) (path ++ n ∷ []) []) (all_of objects))) flags;
   means = λ level p some few. record {
-    spells = λ arity m ts place spell h. rows_mean_in (grammar_of Standard arity) m (def_leveled_method path args serialized level) objects ts place tt (refl, p, some, few) tt spell h;
+    spells = λ arity m ts place spell h. rows_mean_in (grammar_of Standard arity) m (def_leveled_method path args serialized level) objects ts place tt (refl, p, some, few) tt tt spell h;
   };
 }

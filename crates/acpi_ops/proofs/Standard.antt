@@ -33,18 +33,18 @@ pub searches_mean : SearchesMean
 searches_mean = record {
   search = λ searched first second start. record {
     spells = λ arity m ts place spell h.
-        rows_mean_in (grammar_of Standard arity) m (op Match) (searched ∷ first ∷ second ∷ start ∷ []) ts place refl refl tt spell h;
+        rows_mean_in (grammar_of Standard arity) m (op Match) (searched ∷ first ∷ second ∷ start ∷ []) ts place refl refl tt refl spell h;
   };
   test = λ c operand. record {
     spells = λ arity m ts place spell h.
-        rows_mean_in (grammar_of Standard arity) m (match_test (comparison_number c)) (operand ∷ []) ts place refl (refl, comparison_small c) tt spell h;
+        rows_mean_in (grammar_of Standard arity) m (match_test (comparison_number c)) (operand ∷ []) ts place refl (refl, comparison_small c) tt tt spell h;
   };
 }
 
 pub fatal_means : FatalMeans
 fatal_means kind code argument low small = record {
   spells = λ arity m ts place spell h.
-      rows_mean_in (grammar_of Standard arity) m (def_fatal kind code) (argument ∷ []) ts place refl (refl, low, small) tt spell h;
+      rows_mean_in (grammar_of Standard arity) m (def_fatal kind code) (argument ∷ []) ts place refl (refl, low, small) tt tt spell h;
 }
 
 -- ---- fields
@@ -76,11 +76,11 @@ fields_mean a l u entries named = record {
   index = λ index name p q. record {
     spells = λ arity m ts place spell h.
         rows_mean_in (grammar_of Standard arity) m (index_field_head index name a l u entries) [] ts place refl
-        (refl, p, q, access_small a, lock_small l, update_small u, named) (least_widths entries) spell h;
+        (refl, p, q, access_small a, lock_small l, update_small u, named) (least_widths entries) tt spell h;
   };
   bank = λ region bank value p q. record {
     spells = λ arity m ts place spell h.
         rows_mean_in (grammar_of Standard arity) m (bank_field_head region bank a l u entries) (value ∷ []) ts place refl
-        (refl, p, q, access_small a, lock_small l, update_small u, named) (least_widths entries) spell h;
+        (refl, p, q, access_small a, lock_small l, update_small u, named) (least_widths entries) tt spell h;
   };
 }

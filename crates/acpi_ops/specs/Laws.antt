@@ -14,7 +14,7 @@ use Rattle.acpi_term.specs.Tree.{Entry, Head, op, def_fatal, match_test, Terms, 
 use Rattle.acpi_term.specs.Tree.{def_method, def_leveled_method, def_package, def_roomy_package}
 use Rattle.acpi_term.specs.Tree.{def_field, def_index_field, def_bank_field}
 use Rattle.acpi_term.specs.Row.{row, writer_width}
-use Rattle.acpi_term.specs.Spelling.{SpellEach, Spells, SpellEachIn, SpellsIn, AreStandardEntries, inner, is_test}
+use Rattle.acpi_term.specs.Spelling.{SpellEach, Spells, SpellEachIn, SpellsIn, AreStandardEntries, inner, is_test, IsPlain}
 use Rattle.acpi_aml.specs.declared.field.FieldAccessType.{FieldAccessType}
 use Rattle.acpi_aml.specs.declared.field.FieldEntry.{FieldEntry}
 use Rattle.acpi_aml.specs.declared.field.FieldLockRule.{FieldLockRule}
@@ -69,7 +69,8 @@ pub record NegationMeans (o : Op) (objects : List Object) : Type 0 where
 
 -- a term that stands in the place of a test of a Match, or in the others
 abbrev pub stands_in : Bool → Mode → Type 0
-stands_in test m = is_test Standard m ≡ test
+stands_in true m = is_test Standard m ≡ true
+stands_in false m = IsPlain Standard m
 
 -- If each child spells a term of its place, the head spells its own term over these, in every place of that kind and in the width
 -- that is written.

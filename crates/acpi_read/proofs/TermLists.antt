@@ -3,11 +3,12 @@ use Rattle.std.proofs.Common.{◌≡◌, ℕ, suc, ◌+◌, ◌-◌, ◌<◌, �
 use Rattle.acpi_base.specs.Bytes.{AreBytes}
 use Rattle.acpi_term.specs.declared.mode.Mode.{Mode}
 use Rattle.acpi_term.specs.declared.term.Term.{Term}
-use Rattle.acpi_term.specs.Language.{Grammar}
+use Rattle.acpi_term.specs.declared.language.Language.TheVariants.{Standard}
+use Rattle.acpi_term.specs.Language.{Grammar, has}
 use Rattle.acpi_term.specs.Tree.{Head, Terms, end, term}
-use Rattle.acpi_term.specs.Spelling.{next, is_test}
+use Rattle.acpi_term.specs.Spelling.{next, is_test, is_timeout}
 use Rattle.acpi_term.specs.View.{view, views}
-use Rattle.acpi_term.specs.Reading.{Fault, Bad, ◌>>=◌, Opened, head_at, open_at, Reader, counted, all_of, term_at}
+use Rattle.acpi_term.specs.Reading.{Fault, Bad, ◌>>=◌, Opened, high_at, head_at, open_at, Reader, counted, all_of, term_at}
 use Rattle.acpi_term.proofs.Again.{all_more}
 use Rattle.acpi_term.proofs.Taken.{term_shrinks}
 use Rattle.acpi_read.specs.Cause.{FailsBy}
@@ -18,9 +19,15 @@ either_bad : (b : Bool) → ◌≡◌ {A = Result Opened Fault} (cond b (Err Bad
 either_bad true = refl
 either_bad false = refl
 
+no_timeout : (timed standard : Bool) → ◌≡◌ {A = Result Opened Fault} (cond timed (cond standard (Err Bad) (Err Bad)) (Err Bad)) (Err Bad)
+no_timeout true standard = either_bad standard
+no_timeout false standard = refl
+
 nothing_opens : (g : Grammar) (m : Mode) → open_at g m [] ≡ Err Bad
-unfolding open_at head_at
-nothing_opens g m = either_bad (is_test g.language m)
+unfolding open_at head_at high_at
+nothing_opens g m =
+    ap (λ (r : Result Opened Fault). cond (is_test g.language m) (Err Bad) r) (no_timeout (is_timeout g.language m) (has g.language Standard))
+    ∙ either_bad (is_test g.language m)
 
 -- ---- lists of terms
 

@@ -1,7 +1,7 @@
 -- What is opened lies within the bytes.
-use Rattle.std.proofs.Common.{◌≡◌, ℕ, ◌+◌, ◌≤◌, List, [], ◌∷◌, ◌++◌, length, Result, Ok, Err, refl, ap, arith}
+use Rattle.std.proofs.Common.{◌≡◌, ℕ, zero, suc, ◌+◌, ◌≤◌, List, [], ◌∷◌, ◌++◌, length, Result, Ok, Err, refl, sym, ap, arith}
 use Rattle.std.specs.Prelude.{IfOk}
-use Rattle.std.proofs.lemmas.List.{length-append}
+use Rattle.std.proofs.lemmas.List.{append-nil, length-append}
 use Rattle.acpi_base.specs.Bytes.{AreBytes}
 use Rattle.acpi_term.specs.declared.mode.Mode.{Mode}
 use Rattle.acpi_term.specs.Language.{Grammar}
@@ -34,9 +34,14 @@ parts_within bytes first after n is le = omega (arith, ap length is, length-appe
 
 module _ (g : Grammar) (m : Mode) where
   opened_within : (bytes : List ℕ) (o : Opened) → OpenTakes g m bytes o → LiesWithin (length bytes) o
-  opened_within bytes (follows h w n rest) t =
-      let p = (t.1 [] rest refl (λ z. refl)).0 in
-      omega (arith, parts_within bytes (spelled h w n []) rest 0 p (omega arith))
+  opened_within bytes (follows h w n []) t = omega arith
+  opened_within bytes (follows h w zero (b ∷ rest)) t =
+      let p = (t.1 [] (b ∷ rest) refl (record { nothing = λ z. refl; something = λ z. absurd (omega (arith, z)) })).0 in
+      omega (arith, parts_within bytes (spelled h w zero []) (b ∷ rest) 0 p (omega arith))
+  opened_within bytes (follows h w (suc n) (b ∷ rest)) t =
+      let all = b ∷ rest in
+      let p = (t.1 all [] (sym (append-nil all)) (record { nothing = λ z. absurd (omega (arith, z)); something = λ z. omega arith })).0 in
+      omega (arith, parts_within bytes (spelled h w (suc n) all) [] (length all) p (laid_long (layout h w (suc n)) w all))
   opened_within bytes (fills h w inside after) t =
       parts_within bytes (spelled h w (least_of h) inside) after (length inside) (t.2 (least_of h) (omega arith)).0 (laid_long (layout h w (least_of h)) w inside)
   opened_within bytes (packs w n inside after) t = parts_within bytes (spelled def_package w n inside) after (length inside) t.2 (laid_long (layout def_package w n) w inside)

@@ -136,7 +136,8 @@ module _ (g : Grammar) where
     pub parts : bytes ≡ spelling (one h w children) ++ after
     pub fits : AreBytes after
     pub shorter : length after < length bytes
-    pub grows : (others : Terms) → AreInPart d to false others → spelling others ≡ after → AreInPart d to false (term h w children others)
+    pub grows : (others : Terms) → AreInPart d to false others → spelling others ≡ after
+        → AreInPart d to false (term h w children others)
 
   -- all bytes of a list
   pub record IsListInPart (d to : ℕ) (first : Bool) (bytes : List ℕ) (ts : Terms) : Type 0 where

@@ -12,7 +12,7 @@ use Rattle.acpi_term.specs.Tree.{def_name, def_mutex, def_acquire, def_release, 
 use Rattle.acpi_term.specs.Tree.{def_var_package, def_if, def_while, def_else, op, Terms, end, term, count}
 use Rattle.acpi_term.specs.Tree.{def_external, def_leveled_method, def_processor, def_thermal_zone, def_roomy_package}
 use Rattle.acpi_term.specs.Tree.{def_index_field, def_bank_field}
-use Rattle.acpi_term.specs.Tree.{def_fatal, match_test, unread}
+use Rattle.acpi_term.specs.Tree.{def_fatal, match_test, def_timeout, unread}
 use Rattle.acpi_term.specs.Length.{least_width}
 use Rattle.acpi_term.specs.Operator.{word}
 use Rattle.acpi_term.specs.Row.{entry_length, entry_width, Layout, bare, framed, layout, writer_width}
@@ -132,6 +132,7 @@ head_text (def_bank_field name bank access lock update entries) n =
     ++ (codes " lock " ++ decimal lock ++ codes " update " ++ decimal update)
 head_text (def_fatal kind code) n = codes "fatal type " ++ decimal kind ++ codes " code " ++ decimal code
 head_text (match_test k) n = codes "test " ++ decimal k
+head_text (def_timeout t) n = codes "timeout " ++ decimal t
 head_text (unread error bytes) n = codes "unread" ++ data_text bytes
 
 -- the indentation of a line

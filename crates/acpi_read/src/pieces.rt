@@ -171,9 +171,9 @@ impl<'a> Table<'a> {
 
     /// The structures of any table whose structures are known, in order, each with its offset: those of `pieces`, in a HEST every
     /// error source of the standard (types 0 to 2 and 6 to 11), and those of the tables with a further walk
-    /// (`acpi_base::further_walk`). The list is empty for other tables. It is also empty for a table with a further walk that ends
-    /// after its fixed fields and contains 0 as the offset of the first and, if it has the field, as the number of its structures.
-    /// The errors are those of `pieces`, and:
+    /// (`acpi_base::further_walk`). The list is empty for other tables. It is also empty for a table with a further walk that
+    /// ends after its fixed fields and contains 0 as the offset of the first and, if it has the field, as the number of its
+    /// structures. The errors are those of `pieces`, and:
     ///
     /// - UnknownSource: an error source has a type that isn't in the standard. The offset is that of the source.
     /// - Structure: the field with the offset of the first structure contains an offset within the fixed fields. The offset is

@@ -28,7 +28,9 @@ demand_findings demand at section numbers parts = flat_map (number_findings dema
 abbrev pub relation_findings : Option Walk → List ℕ → Relation → List Finding
 relation_findings walk table row =
     if bytes_eq row.table (take 4 table)
-    then demand_findings row.demand row.spot.offset row.section (targets row.demand walk table) (items row.among row.spot walk table) else []
+    then demand_findings row.demand row.spot.offset row.section (targets row.demand walk table)
+    (items row.among row.spot walk table)
+    else []
 
 -- what a table breaks of rules, in the order of the rules
 abbrev pub relations_findings : List Relation → Option Walk → List ℕ → List Finding

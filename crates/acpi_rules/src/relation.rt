@@ -60,7 +60,8 @@ fn check_table<'a>(
     findings: &mut Vec<Finding<'a>>,
 ) -> Result<(), AllocError>
     ensures { OnOk result (map noted findings.new.items ≡ map noted findings.old.items
-        ++ demand_findings (demand_by row.now.demand) row.now.spot.offset row.now.section.now (targets (demand_by row.now.demand) walk table.now)
+        ++ demand_findings (demand_by row.now.demand) row.now.spot.offset row.now.section.now
+        (targets (demand_by row.now.demand) walk table.now)
         (items row.now.among (spot_by row.now.spot) walk table.now)) }
 {
     let numbers = targets_of(alloc, &row.demand, walk, table)?;

@@ -377,8 +377,8 @@ pub mod iort {
     };
 }
 
-/// The I/O Virtualization Reporting Structure, its blocks and their device entries (AMD 48882, 5.2). `rimt` has a type `Iommu`, too:
-/// write `ivrs::Iommu`.
+/// The I/O Virtualization Reporting Structure, its blocks and their device entries (AMD 48882, 5.2). `rimt` has a type `Iommu`,
+/// too: write `ivrs::Iommu`.
 pub mod ivrs {
     pub use acpi_pc::ivrs::{
         AcpiDevice, DeviceEntry, ExtendedIvhd, ExtendedType, IVRS, Iommu, IvInfo, Ivhd, Ivmd,

@@ -44,6 +44,27 @@ pub nothing_inside : (c : Terms) → count c ≡ 0 → spelling c ≡ []
 nothing_inside end e = refl
 nothing_inside (term h w c o) e = absurd (omega arith)
 
+number_some : (v w : ℕ) (inside : List ℕ) → 0 < length (number_bytes v w ++ inside)
+number_some v w inside = grind arith
+
+opcode_some : (o : Op) (inside : List ℕ) → 0 < length (opcode o ++ inside)
+opcode_some CreateField inside = omega arith
+opcode_some o inside = omega arith
+
+module _ (g : Grammar) where
+  -- a term has at least a byte
+  pub head_some : (m : Mode) (h : Head) (w n : ℕ) (inside : List ℕ) → IsLegal g m h w n inside → 0 < length (spelled h w n inside)
+  head_some m (number v) w n inside f = number_some v w inside
+  head_some m (call name) w n inside f = omega (arith, length-append name inside, name_in_some g.language name f.is_standard)
+  head_some m (op o) w n inside f = opcode_some o inside
+  head_some m h w n inside f = omega arith
+
+  -- terms have at least a byte
+  pub something_inside : (m : Mode) (c : Terms) → AreLegal g m c → 0 < count c → 0 < length (spelling c)
+  something_inside m end f some = absurd (omega arith)
+  something_inside m (term h w c o) f some =
+      omega (arith, head_some m h w (count c) (spelling c) f.0, length-append (spelled h w (count c) (spelling c)) (spelling o))
+
 -- a package with room for its elements, and one with room for more
 roomed_all : (w : ℕ) (c : Terms) (rest : List ℕ) → roomed w (count c) c rest ≡ Ok (def_package, w, c, rest)
 roomed_all w c rest = let same : eqb (count c) (count c) ≡ true = grind (arith, nat_tests) in rw same refl
@@ -144,13 +165,6 @@ module _ (g : Grammar) where
 
 -- ---- all of the bytes
 
-number_some : (v w : ℕ) (inside : List ℕ) → 0 < length (number_bytes v w ++ inside)
-number_some v w inside = grind arith
-
-opcode_some : (o : Op) (inside : List ℕ) → 0 < length (opcode o ++ inside)
-opcode_some CreateField inside = omega arith
-opcode_some o inside = omega arith
-
 less : (n : ℕ) → suc n - 1 ≡ n
 less n = omega arith
 
@@ -162,13 +176,6 @@ all_more p zero m (b ∷ bytes) some le = absurd (omega arith)
 all_more p (suc n) m (b ∷ bytes) some le = rw (less n) refl
 
 module _ (g : Grammar) where
-  -- a term has at least a byte
-  pub head_some : (m : Mode) (h : Head) (w n : ℕ) (inside : List ℕ) → IsLegal g m h w n inside → 0 < length (spelled h w n inside)
-  head_some m (number v) w n inside f = number_some v w inside
-  head_some m (call name) w n inside f = omega (arith, length-append name inside, name_in_some g.language name f.is_standard)
-  head_some m (op o) w n inside f = opcode_some o inside
-  head_some m h w n inside f = omega arith
-
   -- one term, and then the others, to the end
   all_step : (h : Head) (w : ℕ) (c o : Terms) → Again g c → AllAgain g o → (d : ℕ) (m : Mode) (n : ℕ) → length (spelling o) ≤ n → AreLegal g m (term h w c o)
       → (term_at g d m (spelling (term h w c o)) >>= λ t. all_of (term_at g d) n (next m) t.3 >>= λ x. Ok (term t.0 t.1 t.2 x)) ≡ guarded (within (term h w c o) d) (term h w c o)
@@ -180,7 +187,7 @@ module _ (g : Grammar) where
 
   all_one_more : (h : Head) (w : ℕ) (c o : Terms) → Again g c → AllAgain g o → AllAgain g (term h w c o)
   all_one_more h w c o law others d m n le f =
-      let some = head_some m h w (count c) (spelling c) f.0 in
+      let some = head_some g m h w (count c) (spelling c) f.0 in
       let len = length-append (spelled h w (count c) (spelling c)) (spelling o) in
       all_more (term_at g d) n m (spelling (term h w c o)) (omega (arith, some, len)) le
       ∙ all_step h w c o law others d m (n - 1) (omega (arith, some, len, le)) f

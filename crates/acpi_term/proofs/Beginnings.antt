@@ -1,10 +1,10 @@
 -- The first bytes of names.
-use Rattle.std.proofs.Common.{◌≡◌, ℕ, true, false, eqb, List, ◌∷◌, ◌++◌, refl, subst}
+use Rattle.std.proofs.Common.{◌≡◌, ℕ, true, false, eqb, List, ◌∷◌, ◌++◌, refl, ap, ◌∙◌, subst}
 use Rattle.std.proofs.lemmas.Bool.{ne_eqb}
-use Rattle.acpi_term.specs.Name.{is_segment, no_more, one_more, IsPath, single, double, multiple, IsName, relative, rooted, as_written, root_alone, upwards, IsNameIn}
+use Rattle.acpi_term.specs.Name.{is_segment, no_more, one_more, IsPath, single, double, multiple, IsName, relative, rooted, as_written, root_alone, upwards, IsNameIn, begins_name}
 use Rattle.acpi_term.specs.declared.language.Language.{Language}
 use Rattle.acpi_term.specs.declared.language.Language.TheVariants.{Written, Standard}
-use Rattle.acpi_term.specs.Reading.{begins_name}
+use Rattle.acpi_term.specs.Reading.{names_first}
 use Rattle.acpi_term.proofs.Names.{lead_of}
 
 lead_begins : (l : Language) (a b c d : ℕ) → is_segment a b c d ≡ true → begins_name l a ≡ true
@@ -24,6 +24,10 @@ name_begins Written s rest p = written_begins Written s rest p
 name_begins Standard s rest (as_written p) = written_begins Standard s rest p
 name_begins Standard s rest root_alone = (92, 0 ∷ rest, refl, refl)
 name_begins Standard s rest (upwards {s = t} p) = (94, t ++ rest, refl, refl)
+
+pub name_first : (l : Language) (s rest : List ℕ) → IsNameIn l s → names_first (s ++ rest) ≡ true
+name_first Written s rest p = let x = name_begins Standard s rest (as_written p) in ap names_first x.2 ∙ x.3
+name_first Standard s rest p = let x = name_begins Standard s rest p in ap names_first x.2 ∙ x.3
 
 -- a byte that begins a name is none that doesn't
 pub begins_not : (l : Language) (b k : ℕ) → begins_name l b ≡ true → begins_name l k ≡ false → eqb b k ≡ false

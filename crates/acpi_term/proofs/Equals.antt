@@ -26,7 +26,7 @@ use Rattle.acpi_term.specs.declared.term.Term.TheViews.{out-Term, roll-Term, rol
 use Rattle.acpi_term.specs.declared.term.Term.TheBlock.{the_members, the_family, the_depth, member-Term, seen-the_row-Term-0, shape-the_row-Term-0, hidden-the_row-Term-0, shown-the_row-Term-0}
 use Rattle.acpi_term.specs.contracts.term.TermPartialEq.TheImpl.{the_step}
 use Rattle.acpi_term.specs.contracts.term.TermPartialEq.TheImpl.Laws.{local}
-use Rattle.acpi_term.specs.Tree.{Head, number, ones, string, local as local_object, arg, call, def_scope, def_device, def_method, def_power_res, def_field, def_op_region, def_name, def_mutex, def_acquire, def_release, def_buffer, def_package, def_var_package, def_if, def_while, def_else, op, def_external, def_leveled_method, def_processor, def_thermal_zone, def_roomy_package, def_index_field, def_bank_field, def_fatal, match_test, unread}
+use Rattle.acpi_term.specs.Tree.{Head, number, ones, string, local as local_object, arg, call, def_scope, def_device, def_method, def_power_res, def_field, def_op_region, def_name, def_mutex, def_acquire, def_release, def_buffer, def_package, def_var_package, def_if, def_while, def_else, op, def_external, def_leveled_method, def_processor, def_thermal_zone, def_roomy_package, def_index_field, def_bank_field, def_fatal, match_test, def_timeout, unread}
 use Rattle.acpi_term.specs.View.{Parts, entry_view, view, views, view_step}
 
 -- ---- values
@@ -172,6 +172,7 @@ tag (def_fatal a b) = 29
 tag (match_test a) = 30
 tag (def_bank_field a b c d e f) = 31
 tag (unread a b) = 32
+tag (def_timeout a) = 33
 
 shape : Term-F Term → ℕ
 shape (Term-F.Number a b) = 0
@@ -207,6 +208,7 @@ shape (Term-F.Fatal a b c) = 29
 shape (Term-F.MatchTest a b) = 30
 shape (Term-F.BankField a b c d e f g) = 31
 shape (Term-F.Unread a b) = 32
+shape (Term-F.Timeout a) = 33
 
 shape_is : (x : Term-F Term) → tag (seen x).0 ≡ shape x
 unfolding seen tag shape
@@ -243,6 +245,7 @@ shape_is (Term-F.Fatal a b c) = refl
 shape_is (Term-F.MatchTest a b) = refl
 shape_is (Term-F.BankField a b c d e f g) = refl
 shape_is (Term-F.Unread a b) = refl
+shape_is (Term-F.Timeout a) = refl
 
 differ : (a b : ℕ) → eqb a b ≡ false → a ≡ b → ⊥
 differ a b other e = grind (arith, nat_tests)
@@ -324,6 +327,7 @@ layer n below (Term-F.BankField a access lock update names value entries) (Term-
     both _ _ (nat_same a b w) (both _ _ (nat_same access access' f) (both _ _ (nat_same lock lock' g) (both _ _ (nat_same update update' k)
     (both _ _ (names_same names.value names'.value d e) (both _ _ (below value.value value'.value (first_view value.value value'.value [] [] c))
     (entries_same entries.items entries'.items l))))))
+layer n below (Term-F.Timeout k) (Term-F.Timeout k') s h w c = let e : k ≡ k' = cc in nat_same k k' e
 layer n below (Term-F.Unread error bytes) (Term-F.Unread error' bytes') s h w c =
     let e : error ≡ error' = cc in let f : bytes.items ≡ bytes'.items = cc in both _ _ (error_same error error' e) (bytes_same bytes.items bytes'.items f)
 layer n below x y s h w c = absurd (differ (shape x) (shape y) refl s)

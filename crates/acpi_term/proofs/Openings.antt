@@ -1,30 +1,31 @@
 -- Heads: what is opened was spelled so.
 use Rattle.std.proofs.Common.{◌≡◌, ℕ, ◌+◌, ◌-◌, ◌/◌, ◌%◌, ◌^◌, ◌<◌, ◌≤◌, Bool, true, false, cond, ltb, eqb, List, [], ◌∷◌, ◌++◌, length, Option, Some, None, Result, Ok, Err, refl, sym, ap, subst, ◌∙◌, append_assoc, arith}
-use Rattle.std.specs.Prelude.{◌&&◌, nat_le}
-use Rattle.std.proofs.lemmas.Bool.{ltb-true, ltb-false, lt-ltb, leb-true, eqb-true, le-leb, ne_eqb, and_parts}
+use Rattle.std.specs.Prelude.{◌&&◌, not, nat_le}
+use Rattle.std.proofs.lemmas.Bool.{ltb-true, ltb-false, lt-ltb, leb-true, eqb-true, eqb-false, le-leb, ne_eqb, and_parts}
 use Rattle.std.proofs.lemmas.Bool.Decides.{nat_tests}
 use Rattle.std.proofs.lemmas.List.{append-nil, length-append}
 use Rattle.acpi_base.specs.Bytes.{AreBytes, le}
 use Rattle.acpi_base.specs.Number.{prefix, number_limit}
 use Rattle.acpi_term.specs.declared.op.Op.{Op}
+use Rattle.acpi_term.specs.declared.op.Op.TheVariants.{Acquire, Release}
 use Rattle.acpi_term.specs.declared.mode.Mode.{Mode}
-use Rattle.acpi_term.specs.Tree.{Entry, Head, number, ones, string, local, arg, call, def_scope, def_device, def_method, def_power_res, def_field, def_op_region, def_name, def_mutex, def_acquire, def_release, def_buffer, def_package, def_var_package, def_if, def_while, def_else, op, def_external, def_leveled_method, def_processor, def_thermal_zone, def_roomy_package, def_index_field, def_bank_field, def_fatal, match_test}
+use Rattle.acpi_term.specs.Tree.{Entry, Head, number, ones, string, local, arg, call, def_scope, def_device, def_method, def_power_res, def_field, def_op_region, def_name, def_mutex, def_acquire, def_release, def_buffer, def_package, def_var_package, def_if, def_while, def_else, op, def_external, def_leveled_method, def_processor, def_thermal_zone, def_roomy_package, def_index_field, def_bank_field, def_fatal, match_test, def_timeout}
 use Rattle.acpi_term.specs.declared.language.Language.{Language}
 use Rattle.acpi_term.specs.declared.language.Language.TheVariants.{Written, Standard}
-use Rattle.acpi_term.specs.Name.{IsNameIn, IsText}
+use Rattle.acpi_term.specs.Name.{IsNameIn, IsText, begins_name}
 use Rattle.acpi_term.specs.Length.{length_bytes, with_length, FrameFits}
-use Rattle.acpi_term.specs.Language.{Grammar, has}
-use Rattle.acpi_term.specs.Operator.{opcode, operands, op_of, language_of}
+use Rattle.acpi_term.specs.Language.{Grammar, is_standard, has}
+use Rattle.acpi_term.specs.Operator.{opcode, operands, op_of, language_of, place}
 use Rattle.acpi_term.specs.Row.{entries_bytes, field_flags, method_flags, leveled_flags}
-use Rattle.acpi_term.specs.Spelling.{spelled, is_test, arguments, AreStandardEntries, EntriesFit, IsLegal}
+use Rattle.acpi_term.specs.Spelling.{spelled, is_test, is_timeout, IsPlain as StandsPlain, arguments, AreStandardEntries, EntriesFit, IsUnnamed, takes_names, IsLegal}
 use Rattle.acpi_base.proofs.Bytes.{bytes_after}
-use Rattle.acpi_term.specs.Reading.{Fault, Bad, ◌>>=◌, name_in, frame_at, text_at, high_at, entries_at, begins_name, number_at, string_at, After, named_at, define_after, release_after, mutex_after, region_after, acquire_after, external_after, further, Inside, framed_at, scope_inside, device_inside, thermal_inside, method_inside, processor_end, processor_inside, index_flags, index_inside, bank_inside, power_inside, field_inside, plain_at, counted_frame, package_at, buffer_at, operator_at, extended_at, local_at, opcode_at, fatal_at, test_at, Opened, follows, fills, packs, rooms, begins, banks, head_at, open_at, least_of}
+use Rattle.acpi_term.specs.Reading.{Fault, Bad, ◌>>=◌, name_in, frame_at, text_at, high_at, entries_at, number_at, string_at, After, named_at, define_after, release_after, mutex_after, region_after, acquire_after, external_after, further, Inside, framed_at, scope_inside, device_inside, thermal_inside, method_inside, processor_end, processor_inside, index_flags, index_inside, bank_inside, power_inside, field_inside, plain_at, counted_frame, package_at, buffer_at, operator_at, extended_at, local_at, opcode_at, fatal_at, test_at, timeout_at, names_first, named_or_operator_at, Opened, follows, fills, packs, rooms, begins, banks, head_at, open_at, least_of}
 use Rattle.acpi_term.proofs.Steps.{bind_ok, ok_is, admitted}
 use Rattle.acpi_term.proofs.Names.{name_in_takes}
 use Rattle.acpi_term.proofs.Texts.{text_takes}
 use Rattle.acpi_term.proofs.Frames.{IsHigh, high_takes, Framed, frame_takes}
 use Rattle.acpi_term.proofs.Entries.{AreEntries, entries_takes, entries_owned}
-use Rattle.acpi_term.proofs.Operators.{op_is}
+use Rattle.acpi_term.proofs.Operators.{op_is, plain_op, any_inside, first_unnamed}
 
 -- ---- parts
 
@@ -70,11 +71,29 @@ pub is_further : (l : Language) → has l Standard ≡ true → l ≡ Standard
 is_further Written more = absurd cc
 is_further Standard more = refl
 
+-- where there are no children, nothing is inside, and otherwise something is
+pub record Ends (n : ℕ) (inside : List ℕ) : Type 0 where
+  pub nothing : n ≡ 0 → inside ≡ []
+  pub something : 0 < n → 0 < length inside
+
+-- what follows an operator begins no name, if none may stand there
+abbrev OverUnnamed : Op → List ℕ → Type 0
+OverUnnamed o rest = (inside after : List ℕ) → rest ≡ inside ++ after → (0 < operands o → 0 < length inside) → IsUnnamed (place Standard o) inside
+
+not_true : (t : Bool) → not t ≡ true → t ≡ false
+not_true true h = absurd cc
+not_true false h = refl
+
+over_unnamed : (o : Op) (rest : List ℕ) → takes_names (place Standard o) ≡ false → names_first rest ≡ false → OverUnnamed o rest
+over_unnamed Acquire rest over none inside after e some = first_unnamed rest inside after none e (some (omega arith))
+over_unnamed Release rest over none inside after e some = first_unnamed rest inside after none e (some (omega arith))
+over_unnamed o rest over none inside after e some = absurd cc
+
 module _ (g : Grammar) (m : Mode) where
   -- what the bytes of an opened head are, whichever children and bytes after them follow
   abbrev pub OpenTakes : List ℕ → Opened → Type 0
   OpenTakes bytes (follows h w n rest) =
-      AreBytes rest × ((inside after : List ℕ) → rest ≡ inside ++ after → (n ≡ 0 → inside ≡ []) → (bytes ≡ spelled h w n inside ++ after) × IsLegal g m h w n inside)
+      AreBytes rest × ((inside after : List ℕ) → rest ≡ inside ++ after → Ends n inside → (bytes ≡ spelled h w n inside ++ after) × IsLegal g m h w n inside)
   OpenTakes bytes (fills h w inside after) = AreBytes inside × AreBytes after × ((n : ℕ) → least_of h ≤ n → (bytes ≡ spelled h w n inside ++ after) × IsLegal g m h w n inside)
   OpenTakes bytes (packs w n inside after) = AreBytes inside × AreBytes after × (bytes ≡ spelled def_package w n inside ++ after) × IsLegal g m def_package w n inside
   OpenTakes bytes (rooms w n inside after) =
@@ -123,16 +142,16 @@ module _ (g : Grammar) (m : Mode) where
 
   bare_reads : (h : Head) (n : ℕ) (before rest bytes : List ℕ) → IsBare h n before → bytes ≡ before ++ rest → AreBytes rest → Reads (Ok (follows h 0 n rest)) bytes
   bare_reads h n before rest bytes row is fits =
-      opens (follows h 0 n rest) bytes (fits, λ inside after e nothing. (bare_parts before rest inside after bytes is e ∙ ap (λ (l : List ℕ). l ++ after) (sym (row.row inside)), row.fits inside))
+      opens (follows h 0 n rest) bytes (fits, λ inside after e ends. (bare_parts before rest inside after bytes is e ∙ ap (λ (l : List ℕ). l ++ after) (sym (row.row inside)), row.fits inside))
 
-  module _ (plain : is_test g.language m ≡ false) where
+  module _ (plain : StandsPlain g.language m) where
     number_is : (b w v : ℕ) (bytes rest : List ℕ) → b ≡ prefix w → (w ≡ 0 → ⊥) → v < number_limit w → v < 2 ^ 64 → IsHigh w v bytes rest → OpenTakes (b ∷ bytes) (follows (number v) w 0 rest)
     number_is b w v bytes rest is some lt top t =
         let wide : eqb w 0 ≡ false = ne_eqb w 0 some in (
           t.fits,
           λ inside after e nothing. (
             rw wide (bare_parts (prefix w ∷ le w v) rest inside after (b ∷ bytes) (rw (is, t.parts) refl) e),
-            record { stands = plain; takes = refl; is_standard = top; owns = refl; fits = lt },
+            record { stands = plain; takes = refl; is_standard = top; owns = refl; fits = lt; over = tt },
           ),
         )
 
@@ -144,29 +163,37 @@ module _ (g : Grammar) (m : Mode) where
         opens (follows (number h.0.0) w 0 h.0.1) (b ∷ bytes) (number_is b w h.0.0 bytes h.0.1 is some (omega (arith, t.below, fits)) (omega (arith, t.below, fits, top)) t) o h.2
 
     small_reads : (b : ℕ) (rest : List ℕ) → b < 2 → AreBytes rest → Reads (Ok (follows (number b) 0 0 rest)) (b ∷ rest)
-    small_reads b rest lt fits = bare_reads (number b) 0 (b ∷ []) rest (b ∷ rest) (record { row = λ inside. refl; fits = λ inside. record { stands = plain; takes = refl; is_standard = omega arith; owns = refl; fits = lt } }) refl fits
+    small_reads b rest lt fits = bare_reads (number b) 0 (b ∷ []) rest (b ∷ rest) (record { row = λ inside. refl; fits = λ inside. record { stands = plain; takes = refl; is_standard = omega arith; owns = refl; fits = lt; over = tt } }) refl fits
 
     ones_reads : (b : ℕ) (rest : List ℕ) → b ≡ 255 → AreBytes rest → Reads (Ok (follows ones 0 0 rest)) (b ∷ rest)
-    ones_reads b rest is fits = bare_reads ones 0 (255 ∷ []) rest (b ∷ rest) (record { row = λ inside. refl; fits = λ inside. record { stands = plain; takes = refl; is_standard = tt; owns = refl; fits = refl } }) (one_byte b 255 rest is) fits
+    ones_reads b rest is fits = bare_reads ones 0 (255 ∷ []) rest (b ∷ rest) (record { row = λ inside. refl; fits = λ inside. record { stands = plain; takes = refl; is_standard = tt; owns = refl; fits = refl; over = tt } }) (one_byte b 255 rest is) fits
 
     local_reads : (b k : ℕ) (rest : List ℕ) → b ≡ 96 + k → k ≤ 7 → AreBytes rest → Reads (Ok (follows (local k) 0 0 rest)) (b ∷ rest)
     local_reads b k rest is few fits =
-        bare_reads (local k) 0 ((96 + k) ∷ []) rest (b ∷ rest) (record { row = λ inside. refl; fits = λ inside. record { stands = plain; takes = refl; is_standard = tt; owns = rw (le-leb k 7 few) refl; fits = refl } }) (one_byte b (96 + k) rest is) fits
+        bare_reads (local k) 0 ((96 + k) ∷ []) rest (b ∷ rest) (record { row = λ inside. refl; fits = λ inside. record { stands = plain; takes = refl; is_standard = tt; owns = rw (le-leb k 7 few) refl; fits = refl; over = tt } }) (one_byte b (96 + k) rest is) fits
 
     arg_reads : (b k : ℕ) (rest : List ℕ) → b ≡ 104 + k → k ≤ 6 → AreBytes rest → Reads (Ok (follows (arg k) 0 0 rest)) (b ∷ rest)
     arg_reads b k rest is few fits =
-        bare_reads (arg k) 0 ((104 + k) ∷ []) rest (b ∷ rest) (record { row = λ inside. refl; fits = λ inside. record { stands = plain; takes = refl; is_standard = tt; owns = rw (le-leb k 6 few) refl; fits = refl } }) (one_byte b (104 + k) rest is) fits
+        bare_reads (arg k) 0 ((104 + k) ∷ []) rest (b ∷ rest) (record { row = λ inside. refl; fits = λ inside. record { stands = plain; takes = refl; is_standard = tt; owns = rw (le-leb k 6 few) refl; fits = refl; over = tt } }) (one_byte b (104 + k) rest is) fits
 
-    op_reads : (o : Op) (rest bytes : List ℕ) → has g.language (language_of o) ≡ true → bytes ≡ opcode o ++ rest → AreBytes rest → Reads (Ok (follows (op o) 0 (operands o) rest)) bytes
-    op_reads o rest bytes within is fits = bare_reads (op o) (operands o) (opcode o) rest bytes (record { row = λ inside. refl; fits = λ inside. record { stands = plain; takes = refl; is_standard = within; owns = refl; fits = refl } }) is fits
+    op_reads : (o : Op) (rest bytes : List ℕ) → has g.language (language_of o) ≡ true → bytes ≡ opcode o ++ rest → AreBytes rest → OverUnnamed o rest → Reads (Ok (follows (op o) 0 (operands o) rest)) bytes
+    op_reads o rest bytes within is fits unnamed =
+        opens (follows (op o) 0 (operands o) rest) bytes (
+          fits,
+          λ inside after e ends. (
+            bare_parts (opcode o) rest inside after bytes is e,
+            record { stands = plain; takes = refl; is_standard = within; owns = refl; fits = refl; over = unnamed inside after e ends.something },
+          ),
+        )
 
-    operator_reads : (code : List ℕ) (found : Option Op) (rest bytes : List ℕ) → op_of code ≡ found → bytes ≡ code ++ rest → AreBytes rest → Reads (operator_at g.language found rest) bytes
-    operator_reads code None rest bytes found is fits = refused bytes
-    operator_reads code (Some o) rest bytes found is fits = where_it_holds (has g.language (language_of o)) _ bytes (λ h. op_reads o rest bytes h (rw (op_is code o found) is) fits)
+    operator_reads : (code : List ℕ) (found : Option Op) (rest bytes : List ℕ) → op_of code ≡ found → bytes ≡ code ++ rest → AreBytes rest → ((o : Op) → opcode o ≡ code → OverUnnamed o rest) → Reads (operator_at g.language found rest) bytes
+    operator_reads code None rest bytes found is fits unnamed = refused bytes
+    operator_reads code (Some o) rest bytes found is fits unnamed =
+        where_it_holds (has g.language (language_of o)) _ bytes (λ h. op_reads o rest bytes h (rw (op_is code o found) is) fits (unnamed o (op_is code o found)))
 
     string_is : (bytes s rest all : List ℕ) → all ≡ 13 ∷ bytes → AreBytes bytes → IsText s × (bytes ≡ s ++ 0 ∷ rest) → Reads (Ok (follows (string s) 0 0 rest)) all
     string_is bytes s rest all is fits t =
-        bare_reads (string s) 0 (13 ∷ s ++ 0 ∷ []) rest all (record { row = λ inside. refl; fits = λ inside. record { stands = plain; takes = refl; is_standard = t.0; owns = refl; fits = refl } })
+        bare_reads (string s) 0 (13 ∷ s ++ 0 ∷ []) rest all (record { row = λ inside. refl; fits = λ inside. record { stands = plain; takes = refl; is_standard = t.0; owns = refl; fits = refl; over = tt } })
         (is ∙ ap (λ (l : List ℕ). 13 ∷ l) (t.1 ∙ sym (append_assoc s (0 ∷ []) rest))) (bytes_after s (0 ∷ rest) (subst AreBytes t.1 fits)).1
 
     string_reads : (b : ℕ) (bytes : List ℕ) → b ≡ 13 → AreBytes bytes → Reads (string_at bytes) (b ∷ bytes)
@@ -190,23 +217,33 @@ module _ (g : Grammar) (m : Mode) where
 
     define_reads : (rest bytes : List ℕ) → bytes ≡ (8 ∷ []) ++ rest → AfterReads define_after rest bytes
     define_reads rest bytes is name tail p e fits =
-        bare_reads (def_name name) 1 (8 ∷ name) tail bytes (record { row = λ inside. refl; fits = λ inside. record { stands = plain; takes = refl; is_standard = p; owns = refl; fits = refl } }) (is ∙ ap (λ (l : List ℕ). 8 ∷ l) e) fits
+        bare_reads (def_name name) 1 (8 ∷ name) tail bytes (record { row = λ inside. refl; fits = λ inside. record { stands = plain; takes = refl; is_standard = p; owns = refl; fits = refl; over = tt } }) (is ∙ ap (λ (l : List ℕ). 8 ∷ l) e) fits
+
+    -- a name, or an operator over something else
+    named_or_operator_reads : (k : After) (o : Op) (rest bytes : List ℕ) → takes_names (place Standard o) ≡ false → has g.language (language_of o) ≡ is_standard g.language → bytes ≡ opcode o ++ rest → AreBytes rest → AfterReads k rest bytes
+        → Reads (named_or_operator_at g.language k o rest) bytes
+    named_or_operator_reads k o rest bytes over same is fits next =
+        either_way (is_standard g.language && not (names_first rest)) _ _ bytes
+        (λ h.
+        let p = and_parts (is_standard g.language) (not (names_first rest)) h in
+        op_reads o rest bytes (same ∙ p.0) is fits (over_unnamed o rest over (not_true (names_first rest) p.1)))
+        (λ _. named_reads k rest bytes fits next)
 
     release_reads : (rest bytes : List ℕ) → bytes ≡ (91 ∷ 39 ∷ []) ++ rest → AfterReads release_after rest bytes
     release_reads rest bytes is name tail p e fits =
-        bare_reads (def_release name) 0 (91 ∷ 39 ∷ name) tail bytes (record { row = λ inside. refl; fits = λ inside. record { stands = plain; takes = refl; is_standard = p; owns = refl; fits = refl } })
+        bare_reads (def_release name) 0 (91 ∷ 39 ∷ name) tail bytes (record { row = λ inside. refl; fits = λ inside. record { stands = plain; takes = refl; is_standard = p; owns = refl; fits = refl; over = tt } })
         (is ∙ ap (λ (l : List ℕ). 91 ∷ 39 ∷ l) e) fits
 
     mutex_reads : (rest bytes : List ℕ) → bytes ≡ (91 ∷ 1 ∷ []) ++ rest → AfterReads mutex_after rest bytes
     mutex_reads rest bytes is name [] p e fits = refused bytes
     mutex_reads rest bytes is name (level ∷ tail) p e fits =
-        bare_reads (def_mutex name level) 0 (91 ∷ 1 ∷ name ++ level ∷ []) tail bytes (record { row = λ inside. refl; fits = λ inside. record { stands = plain; takes = refl; is_standard = (p, fits.0); owns = refl; fits = refl } })
+        bare_reads (def_mutex name level) 0 (91 ∷ 1 ∷ name ++ level ∷ []) tail bytes (record { row = λ inside. refl; fits = λ inside. record { stands = plain; takes = refl; is_standard = (p, fits.0); owns = refl; fits = refl; over = tt } })
         (is ∙ ap (λ (l : List ℕ). 91 ∷ 1 ∷ l) (e ∙ sym (append_assoc name (level ∷ []) tail))) fits.1
 
     region_reads : (rest bytes : List ℕ) → bytes ≡ (91 ∷ 128 ∷ []) ++ rest → AfterReads region_after rest bytes
     region_reads rest bytes is name [] p e fits = refused bytes
     region_reads rest bytes is name (space ∷ tail) p e fits =
-        bare_reads (def_op_region name space) 2 (91 ∷ 128 ∷ name ++ space ∷ []) tail bytes (record { row = λ inside. refl; fits = λ inside. record { stands = plain; takes = refl; is_standard = (p, fits.0); owns = refl; fits = refl } })
+        bare_reads (def_op_region name space) 2 (91 ∷ 128 ∷ name ++ space ∷ []) tail bytes (record { row = λ inside. refl; fits = λ inside. record { stands = plain; takes = refl; is_standard = (p, fits.0); owns = refl; fits = refl; over = tt } })
         (is ∙ ap (λ (l : List ℕ). 91 ∷ 128 ∷ l) (e ∙ sym (append_assoc name (space ∷ []) tail))) fits.1
 
     acquire_reads : (rest bytes : List ℕ) → bytes ≡ (91 ∷ 35 ∷ []) ++ rest → AfterReads acquire_after rest bytes
@@ -214,7 +251,7 @@ module _ (g : Grammar) (m : Mode) where
     acquire_reads rest bytes is name tail p e fits o r =
         let h = bind_ok (high_at 2 tail) (λ h. Ok (follows (def_acquire name h.0) 0 0 h.1)) o r in
         let t = high_takes 2 tail h.0 fits h.1 in
-        bare_reads (def_acquire name h.0.0) 0 (91 ∷ 35 ∷ name ++ le 2 h.0.0) h.0.1 bytes (record { row = λ inside. refl; fits = λ inside. record { stands = plain; takes = refl; is_standard = (p, t.below); owns = refl; fits = refl } })
+        bare_reads (def_acquire name h.0.0) 0 (91 ∷ 35 ∷ name ++ le 2 h.0.0) h.0.1 bytes (record { row = λ inside. refl; fits = λ inside. record { stands = plain; takes = refl; is_standard = (p, t.below); owns = refl; fits = refl; over = tt } })
         (is ∙ ap (λ (l : List ℕ). 91 ∷ 35 ∷ l) (grouped name (le 2 h.0.0) h.0.1 rest tail e t.parts)) t.fits o h.2
 
     external_reads : (rest bytes : List ℕ) → IsFurther → bytes ≡ (21 ∷ []) ++ rest → AfterReads external_after rest bytes
@@ -222,7 +259,7 @@ module _ (g : Grammar) (m : Mode) where
     external_reads rest bytes more is name (kind ∷ []) p e fits = refused bytes
     external_reads rest bytes more is name (kind ∷ args ∷ tail) p e fits =
         bare_reads (def_external name kind args) 0 (21 ∷ name ++ kind ∷ args ∷ []) tail bytes
-        (record { row = λ inside. refl; fits = λ inside. record { stands = plain; takes = refl; is_standard = (more, p, fits.0, fits.1.0); owns = refl; fits = refl } })
+        (record { row = λ inside. refl; fits = λ inside. record { stands = plain; takes = refl; is_standard = (more, p, fits.0, fits.1.0); owns = refl; fits = refl; over = tt } })
         (is ∙ ap (λ (l : List ℕ). 21 ∷ l) (e ∙ sym (append_assoc name (kind ∷ args ∷ []) tail))) fits.1.1
 
     fatal_reads : (rest bytes : List ℕ) → IsFurther → bytes ≡ (91 ∷ 50 ∷ []) ++ rest → AreBytes rest → Reads (fatal_at rest) bytes
@@ -232,7 +269,7 @@ module _ (g : Grammar) (m : Mode) where
         let h = bind_ok (high_at 4 tail) (λ h. Ok (follows (def_fatal kind h.0) 0 1 h.1)) o r in
         let t = high_takes 4 tail h.0 fits.1 h.1 in
         bare_reads (def_fatal kind h.0.0) 1 (91 ∷ 50 ∷ kind ∷ le 4 h.0.0) h.0.1 bytes
-        (record { row = λ inside. refl; fits = λ inside. record { stands = plain; takes = refl; is_standard = (more, fits.0, t.below); owns = refl; fits = refl } })
+        (record { row = λ inside. refl; fits = λ inside. record { stands = plain; takes = refl; is_standard = (more, fits.0, t.below); owns = refl; fits = refl; over = tt } })
         (is ∙ ap (λ (l : List ℕ). 91 ∷ 50 ∷ kind ∷ l) t.parts) t.fits o h.2
 
     -- ---- names in frames
@@ -258,7 +295,7 @@ module _ (g : Grammar) (m : Mode) where
           f.after_fits,
           λ n enough. (
             frame_parts (16 ∷ []) rest content _ after bytes w is f.parts same,
-            record { stands = plain; takes = tt; is_standard = p; owns = refl; fits = subst (FrameFits w) same f.fits },
+            record { stands = plain; takes = tt; is_standard = p; owns = refl; fits = subst (FrameFits w) same f.fits; over = tt },
           ),
         )
 
@@ -270,7 +307,7 @@ module _ (g : Grammar) (m : Mode) where
           f.after_fits,
           λ n enough. (
             frame_parts (91 ∷ 130 ∷ []) rest content _ after bytes w is f.parts same,
-            record { stands = plain; takes = tt; is_standard = p; owns = refl; fits = subst (FrameFits w) same f.fits },
+            record { stands = plain; takes = tt; is_standard = p; owns = refl; fits = subst (FrameFits w) same f.fits; over = tt },
           ),
         )
 
@@ -283,7 +320,7 @@ module _ (g : Grammar) (m : Mode) where
           f.after_fits,
           λ n enough. (
             frame_parts (20 ∷ []) rest content _ after bytes w is f.parts same,
-            record { stands = plain; takes = tt; is_standard = p; owns = rw (le-leb args 7 few) refl; fits = subst (FrameFits w) same f.fits },
+            record { stands = plain; takes = tt; is_standard = p; owns = rw (le-leb args 7 few) refl; fits = subst (FrameFits w) same f.fits; over = tt },
           ),
         )
 
@@ -296,7 +333,7 @@ module _ (g : Grammar) (m : Mode) where
           f.after_fits,
           λ n enough. (
             frame_parts (20 ∷ []) rest content _ after bytes w is f.parts same,
-            record { stands = plain; takes = tt; is_standard = (more, p, low, high); owns = rw (le-leb args 7 few) refl; fits = subst (FrameFits w) same f.fits },
+            record { stands = plain; takes = tt; is_standard = (more, p, low, high); owns = rw (le-leb args 7 few) refl; fits = subst (FrameFits w) same f.fits; over = tt },
           ),
         )
 
@@ -323,7 +360,7 @@ module _ (g : Grammar) (m : Mode) where
           f.after_fits,
           λ n enough. (
             frame_parts (91 ∷ 133 ∷ []) rest content _ after bytes w is f.parts same,
-            record { stands = plain; takes = tt; is_standard = (more, p); owns = refl; fits = subst (FrameFits w) same f.fits },
+            record { stands = plain; takes = tt; is_standard = (more, p); owns = refl; fits = subst (FrameFits w) same f.fits; over = tt },
           ),
         )
 
@@ -338,7 +375,7 @@ module _ (g : Grammar) (m : Mode) where
           f.after_fits,
           λ n enough. (
             frame_parts (91 ∷ 131 ∷ []) rest content _ after bytes w is f.parts same,
-            record { stands = plain; takes = tt; is_standard = (more, p, low, below, fits.0); owns = refl; fits = subst (FrameFits w) same f.fits },
+            record { stands = plain; takes = tt; is_standard = (more, p, low, below, fits.0); owns = refl; fits = subst (FrameFits w) same f.fits; over = tt },
           ),
         )
 
@@ -362,7 +399,7 @@ module _ (g : Grammar) (m : Mode) where
           f.after_fits,
           λ n enough. (
             frame_parts (91 ∷ 132 ∷ []) rest content _ after bytes w is f.parts same,
-            record { stands = plain; takes = tt; is_standard = (p, fits.0, t.below); owns = refl; fits = subst (FrameFits w) same f.fits },
+            record { stands = plain; takes = tt; is_standard = (p, fits.0, t.below); owns = refl; fits = subst (FrameFits w) same f.fits; over = tt },
           ),
         ) o h.2
 
@@ -373,10 +410,10 @@ module _ (g : Grammar) (m : Mode) where
         let same : content ≡ before ++ [] = e ∙ ap (λ (l : List ℕ). name ++ field_flags access lock update ∷ l) t.parts ∙ sym (append-nil before) in
         let parts : bytes ≡ ((91 ∷ 129 ∷ []) ++ with_length w (before ++ [])) ++ after = frame_parts (91 ∷ 129 ∷ []) rest content _ after bytes w is f.parts same in
         let fits : FrameFits w (before ++ []) = subst (FrameFits w) same f.fits in
-        let head : IsLegal g m (def_field name access lock update entries) w 0 [] = record { stands = plain; takes = refl; is_standard = (p, a, l, u, t.standard); owns = entries_owned entries t.fits; fits = (t.fits, fits) } in (
+        let head : IsLegal g m (def_field name access lock update entries) w 0 [] = record { stands = plain; takes = refl; is_standard = (p, a, l, u, t.standard); owns = entries_owned entries t.fits; fits = (t.fits, fits); over = tt } in (
           f.after_fits,
-          λ inner after_it split nothing.
-              let none = nothing refl in
+          λ inner after_it split ends.
+              let none = ends.nothing refl in
               let rest_is : after ≡ after_it = split ∙ ap (λ (l : List ℕ). l ++ after_it) none in
               subst (λ (l : List ℕ). (bytes ≡ spelled (def_field name access lock update entries) w 0 l ++ after_it) × IsLegal g m (def_field name access lock update entries) w 0 l) (sym none)
               (parts ∙ ap (λ (l : List ℕ). ((91 ∷ 129 ∷ []) ++ with_length w (before ++ [])) ++ l) rest_is, head),
@@ -403,10 +440,10 @@ module _ (g : Grammar) (m : Mode) where
         let same : content ≡ before ++ [] = e ∙ ap (λ (l : List ℕ). index ++ (name ++ field_flags access lock update ∷ l)) t.parts ∙ sym (append-nil before) in
         let parts : bytes ≡ ((91 ∷ 134 ∷ []) ++ with_length w (before ++ [])) ++ after = frame_parts (91 ∷ 134 ∷ []) rest content _ after bytes w is f.parts same in
         let fits : FrameFits w (before ++ []) = subst (FrameFits w) same f.fits in
-        let head : IsLegal g m (def_index_field index name access lock update entries) w 0 [] = record { stands = plain; takes = refl; is_standard = (more, p, q, a, l, u, t.standard); owns = entries_owned entries t.fits; fits = (t.fits, fits) } in (
+        let head : IsLegal g m (def_index_field index name access lock update entries) w 0 [] = record { stands = plain; takes = refl; is_standard = (more, p, q, a, l, u, t.standard); owns = entries_owned entries t.fits; fits = (t.fits, fits); over = tt } in (
           f.after_fits,
-          λ inner after_it split nothing.
-              let none = nothing refl in
+          λ inner after_it split ends.
+              let none = ends.nothing refl in
               let rest_is : after ≡ after_it = split ∙ ap (λ (l : List ℕ). l ++ after_it) none in
               subst (λ (l : List ℕ). (bytes ≡ spelled (def_index_field index name access lock update entries) w 0 l ++ after_it) × IsLegal g m (def_index_field index name access lock update entries) w 0 l) (sym none)
               (parts ∙ ap (λ (l : List ℕ). ((91 ∷ 134 ∷ []) ++ with_length w (before ++ [])) ++ l) rest_is, head),
@@ -449,7 +486,7 @@ module _ (g : Grammar) (m : Mode) where
           let tail = field_flags access lock update ∷ entries_bytes entries in
           let same : content ≡ mid ++ (children ++ tail) = e ∙ sym (append_assoc name bank inside) ∙ ap (λ (l : List ℕ). mid ++ l) split in (
             frame_parts (91 ∷ 135 ∷ []) rest content _ after bytes w is f.parts same,
-            record { stands = plain; takes = refl; is_standard = (more, p, q, a, l, u, standard); owns = entries_owned entries carried; fits = (carried, subst (FrameFits w) same f.fits) },
+            record { stands = plain; takes = refl; is_standard = (more, p, q, a, l, u, standard); owns = entries_owned entries carried; fits = (carried, subst (FrameFits w) same f.fits); over = tt },
           ),
     )
 
@@ -478,11 +515,11 @@ module _ (g : Grammar) (m : Mode) where
 
     package_legal : (w n : ℕ) (rest inside after : List ℕ) → Framed rest w (n ∷ inside) after → IsLegal g m def_package w n inside
     package_legal w n rest inside after f =
-        record { stands = plain; takes = tt; is_standard = tt; owns = rw (le-leb n 255 (omega (arith, f.inside_fits.0))) refl; fits = subst (FrameFits w) (none_after (n ∷ []) inside (n ∷ inside) refl) f.fits }
+        record { stands = plain; takes = tt; is_standard = tt; owns = rw (le-leb n 255 (omega (arith, f.inside_fits.0))) refl; fits = subst (FrameFits w) (none_after (n ∷ []) inside (n ∷ inside) refl) f.fits; over = tt }
 
     roomy_legal : (w n k : ℕ) (rest inside after : List ℕ) → IsFurther → Framed rest w (n ∷ inside) after → k < n → IsLegal g m (def_roomy_package n) w k inside
     roomy_legal w n k rest inside after more f lt =
-        record { stands = plain; takes = tt; is_standard = (more, f.inside_fits.0); owns = rw (lt-ltb k n lt) refl; fits = subst (FrameFits w) (none_after (n ∷ []) inside (n ∷ inside) refl) f.fits }
+        record { stands = plain; takes = tt; is_standard = (more, f.inside_fits.0); owns = rw (lt-ltb k n lt) refl; fits = subst (FrameFits w) (none_after (n ∷ []) inside (n ∷ inside) refl) f.fits; over = tt }
 
     package_parts : (b w n : ℕ) (rest inside after : List ℕ) → b ≡ 18 → Framed rest w (n ∷ inside) after → b ∷ rest ≡ ((18 ∷ []) ++ with_length w ((n ∷ []) ++ (inside ++ []))) ++ after
     package_parts b w n rest inside after is f = frame_parts (18 ∷ []) rest (n ∷ inside) _ after (b ∷ rest) w (one_byte b 18 rest is) f.parts (none_after (n ∷ []) inside (n ∷ inside) refl)
@@ -507,7 +544,7 @@ module _ (g : Grammar) (m : Mode) where
       f.after_fits,
       λ inside bytes e. (
         frame_parts (17 ∷ []) rest content _ after (b ∷ rest) w (one_byte b 17 rest is) f.parts e,
-        record { stands = plain; takes = refl; is_standard = bytes_after inside bytes (subst AreBytes e f.inside_fits); owns = refl; fits = subst (FrameFits w) e f.fits },
+        record { stands = plain; takes = refl; is_standard = bytes_after inside bytes (subst AreBytes e f.inside_fits); owns = refl; fits = subst (FrameFits w) e f.fits; over = tt },
       ),
     )
 
@@ -519,15 +556,24 @@ module _ (g : Grammar) (m : Mode) where
 
     -- ---- opcodes
 
+    one_differs : (b k : ℕ) (o : Op) → opcode o ≡ b ∷ [] → opcode o ≡ 91 ∷ k ∷ [] → ⊥
+    one_differs b k o same p = let e : b ∷ [] ≡ 91 ∷ k ∷ [] = sym same ∙ p in cc
+
+    second_differs : (x k : ℕ) (o : Op) → eqb x k ≡ false → opcode o ≡ 91 ∷ x ∷ [] → opcode o ≡ 91 ∷ k ∷ [] → ⊥
+    second_differs x k o other same p = let e : 91 ∷ x ∷ [] ≡ 91 ∷ k ∷ [] = sym same ∙ p in eqb-false x k other cc
+
+    over_any : (o : Op) (rest : List ℕ) → (opcode o ≡ 91 ∷ 35 ∷ [] → ⊥) → (opcode o ≡ 91 ∷ 39 ∷ [] → ⊥) → OverUnnamed o rest
+    over_any o rest p q inside after e some = any_inside (place Standard o) inside (plain_op o p q)
+
     extended_reads : (b : ℕ) (rest : List ℕ) → b ≡ 91 → AreBytes rest → Reads (extended_at g.language rest) (b ∷ rest)
     extended_reads b [] is fits = refused (b ∷ [])
     extended_reads b (x ∷ rest) is fits =
         let all = b ∷ x ∷ rest in
         let two = λ (k : ℕ) (h : eqb x k ≡ true). two_bytes b 91 x k rest is (eqb-true x k h) in
         either_way (eqb x 1) _ _ all (λ h. named_reads mutex_after rest all fits.1 (mutex_reads rest all (two 1 h)))
-        (λ _. either_way (eqb x 35) _ _ all (λ h. named_reads acquire_after rest all fits.1 (acquire_reads rest all (two 35 h)))
-        (λ _. either_way (eqb x 39) _ _ all (λ h. named_reads release_after rest all fits.1 (release_reads rest all (two 39 h)))
-        (λ _. either_way (eqb x 50) _ _ all (λ h. further_reads _ all (λ more. fatal_reads rest all more (two 50 h) fits.1))
+        (λ _. either_way (eqb x 35) _ _ all (λ h. named_or_operator_reads acquire_after Acquire rest all refl refl (two 35 h) fits.1 (acquire_reads rest all (two 35 h)))
+        (λ not_acquire. either_way (eqb x 39) _ _ all (λ h. named_or_operator_reads release_after Release rest all refl refl (two 39 h) fits.1 (release_reads rest all (two 39 h)))
+        (λ not_release. either_way (eqb x 50) _ _ all (λ h. further_reads _ all (λ more. fatal_reads rest all more (two 50 h) fits.1))
         (λ _. either_way (eqb x 128) _ _ all (λ h. named_reads region_after rest all fits.1 (region_reads rest all (two 128 h)))
         (λ _. either_way (eqb x 129) _ _ all (λ h. framed_reads (field_inside g.language) rest all fits.1 (field_reads rest all (two 129 h)))
         (λ _. either_way (eqb x 130) _ _ all (λ h. framed_reads device_inside rest all fits.1 (device_reads rest all (two 130 h)))
@@ -536,7 +582,7 @@ module _ (g : Grammar) (m : Mode) where
         (λ _. either_way (eqb x 133) _ _ all (λ h. further_reads _ all (λ more. framed_reads thermal_inside rest all fits.1 (thermal_reads rest all more (two 133 h))))
         (λ _. either_way (eqb x 134) _ _ all (λ h. further_reads _ all (λ more. framed_reads (index_inside g.language) rest all fits.1 (index_reads rest all more (two 134 h))))
         (λ _. either_way (eqb x 135) _ _ all (λ h. further_reads _ all (λ more. framed_reads (bank_inside g.language) rest all fits.1 (bank_reads rest all more (two 135 h))))
-        (λ _. operator_reads (91 ∷ x ∷ []) (op_of (91 ∷ x ∷ [])) rest all refl (two_bytes b 91 x x rest is refl) fits.1))))))))))))
+        (λ _. operator_reads (91 ∷ x ∷ []) (op_of (91 ∷ x ∷ [])) rest all refl (two_bytes b 91 x x rest is refl) fits.1 (λ o same. over_any o rest (λ p. second_differs x 35 o not_acquire same p) (λ p. second_differs x 39 o not_release same p))))))))))))))
 
     local_or_op_reads : (b : ℕ) (rest : List ℕ) → AreBytes rest → Reads (local_at g.language b rest) (b ∷ rest)
     local_or_op_reads b rest fits =
@@ -544,19 +590,19 @@ module _ (g : Grammar) (m : Mode) where
         (λ h. let p = and_parts (nat_le 96 b) (nat_le b 103) h in let low = leb-true 96 b p.0 in let high = leb-true b 103 p.1 in local_reads b (b - 96) rest (omega arith) (omega arith) fits)
         (λ h. either_way (nat_le 104 b && nat_le b 110) _ _ (b ∷ rest)
         (λ h. let p = and_parts (nat_le 104 b) (nat_le b 110) h in let low = leb-true 104 b p.0 in let high = leb-true b 110 p.1 in arg_reads b (b - 104) rest (omega arith) (omega arith) fits)
-        (λ h. operator_reads (b ∷ []) (op_of (b ∷ [])) rest (b ∷ rest) refl refl fits))
+        (λ h. operator_reads (b ∷ []) (op_of (b ∷ [])) rest (b ∷ rest) refl refl fits (λ o same. over_any o rest (λ p. one_differs b 35 o same p) (λ p. one_differs b 39 o same p))))
 
     varpack_plain : IsPlain def_var_package 19
-    varpack_plain = record { row = λ w n inside. refl; fits = λ w n inside enough f. record { stands = plain; takes = enough; is_standard = tt; owns = refl; fits = f } }
+    varpack_plain = record { row = λ w n inside. refl; fits = λ w n inside enough f. record { stands = plain; takes = enough; is_standard = tt; owns = refl; fits = f; over = tt } }
 
     branch_plain : IsPlain def_if 160
-    branch_plain = record { row = λ w n inside. refl; fits = λ w n inside enough f. record { stands = plain; takes = enough; is_standard = tt; owns = refl; fits = f } }
+    branch_plain = record { row = λ w n inside. refl; fits = λ w n inside enough f. record { stands = plain; takes = enough; is_standard = tt; owns = refl; fits = f; over = tt } }
 
     loop_plain : IsPlain def_while 162
-    loop_plain = record { row = λ w n inside. refl; fits = λ w n inside enough f. record { stands = plain; takes = enough; is_standard = tt; owns = refl; fits = f } }
+    loop_plain = record { row = λ w n inside. refl; fits = λ w n inside enough f. record { stands = plain; takes = enough; is_standard = tt; owns = refl; fits = f; over = tt } }
 
     otherwise_plain : IsPlain def_else 161
-    otherwise_plain = record { row = λ w n inside. refl; fits = λ w n inside enough f. record { stands = plain; takes = tt; is_standard = tt; owns = refl; fits = f } }
+    otherwise_plain = record { row = λ w n inside. refl; fits = λ w n inside enough f. record { stands = plain; takes = tt; is_standard = tt; owns = refl; fits = f; over = tt } }
 
     opcode_reads : (b : ℕ) (rest : List ℕ) → AreBytes rest → Reads (opcode_at g.language b rest) (b ∷ rest)
     opcode_reads b rest fits =
@@ -584,7 +630,7 @@ module _ (g : Grammar) (m : Mode) where
 
     call_is : (bytes name rest : List ℕ) → AreBytes bytes → IsNameIn g.language name × (bytes ≡ name ++ rest) → Reads (Ok (follows (call name) 0 (arguments g.arity m name) rest)) bytes
     call_is bytes name rest fits t =
-        bare_reads (call name) (arguments g.arity m name) name rest bytes (record { row = λ inside. refl; fits = λ inside. record { stands = plain; takes = refl; is_standard = t.0; owns = refl; fits = refl } }) t.1 (bytes_after name rest (subst AreBytes t.1 fits))
+        bare_reads (call name) (arguments g.arity m name) name rest bytes (record { row = λ inside. refl; fits = λ inside. record { stands = plain; takes = refl; is_standard = t.0; owns = refl; fits = refl; over = tt } }) t.1 (bytes_after name rest (subst AreBytes t.1 fits))
 
     call_reads : (bytes : List ℕ) → AreBytes bytes → Reads (name_in g.language bytes >>= λ n. Ok (follows (call n.0) 0 (arguments g.arity m n.0) n.1)) bytes
     unfolding Reads
@@ -597,14 +643,28 @@ module _ (g : Grammar) (m : Mode) where
     head_reads [] fits = refused []
     head_reads (b ∷ rest) fits = either_way (begins_name g.language b) _ _ (b ∷ rest) (λ h. call_reads (b ∷ rest) fits) (λ h. opcode_reads b rest fits.1)
 
+  -- the timeout of an Acquire
+  timeout_is : (bytes : List ℕ) → is_test g.language m ≡ false → is_timeout g.language m ≡ true → IsFurther → AreBytes bytes → Reads (high_at 2 bytes >>= λ h. Ok (follows (def_timeout h.0) 0 0 h.1)) bytes
+  unfolding Reads
+  timeout_is bytes plain timed more fits o r =
+      let h = bind_ok (high_at 2 bytes) (λ h. Ok (follows (def_timeout h.0) 0 0 h.1)) o r in
+      let t = high_takes 2 bytes h.0 fits h.1 in
+      bare_reads (def_timeout h.0.0) 0 (le 2 h.0.0) h.0.1 bytes
+      (record { row = λ inside. refl; fits = λ inside. record { stands = (plain, timed); takes = refl; is_standard = (more, t.below); owns = refl; fits = refl; over = tt } }) t.parts t.fits o h.2
+
+  timeout_reads : (bytes : List ℕ) → is_test g.language m ≡ false → is_timeout g.language m ≡ true → AreBytes bytes → Reads (timeout_at g.language bytes) bytes
+  timeout_reads bytes plain timed fits = further_reads _ bytes (λ more. timeout_is bytes plain timed more fits)
+
   -- a test of a Match
   test_reads : (bytes : List ℕ) → is_test g.language m ≡ true → AreBytes bytes → Reads (test_at g.language bytes) bytes
   test_reads [] test fits = refused []
   test_reads (k ∷ rest) test fits =
       further_reads _ (k ∷ rest) (λ more. where_it_holds (nat_le k 5) _ (k ∷ rest)
       (λ h. bare_reads (match_test k) 1 (k ∷ []) rest (k ∷ rest)
-      (record { row = λ inside. refl; fits = λ inside. record { stands = test; takes = refl; is_standard = (more, leb-true k 5 h); owns = refl; fits = refl } }) refl fits.1))
+      (record { row = λ inside. refl; fits = λ inside. record { stands = test; takes = refl; is_standard = (more, leb-true k 5 h); owns = refl; fits = refl; over = tt } }) refl fits.1))
 
   pub open_takes : (bytes : List ℕ) (o : Opened) → AreBytes bytes → open_at g m bytes ≡ Ok o → OpenTakes bytes o
   unfolding open_at Reads
-  open_takes bytes o fits e = either_way (is_test g.language m) _ _ bytes (λ t. test_reads bytes t fits) (λ p. head_reads p bytes fits) o e
+  open_takes bytes o fits e =
+      either_way (is_test g.language m) _ _ bytes (λ t. test_reads bytes t fits)
+      (λ p. either_way (is_timeout g.language m) _ _ bytes (λ t. timeout_reads bytes p t fits) (λ q. head_reads (p, q) bytes fits)) o e

@@ -1,6 +1,6 @@
 -- Heads: what is spelled so is opened.
 use Rattle.std.proofs.Common.{◌≡◌, ℕ, zero, suc, ◌+◌, ◌-◌, ◌*◌, ◌/◌, ◌%◌, ◌<◌, ◌≤◌, Bool, true, false, cond, ltb, List, [], ◌∷◌, ◌++◌, length, Some, None, Result, Ok, Err, refl, sym, ap, subst, ◌∙◌, append_assoc, arith}
-use Rattle.std.specs.Prelude.{nat_le}
+use Rattle.std.specs.Prelude.{nat_le, ◌&&◌}
 use Rattle.std.proofs.lemmas.Bool.{leb-true, lt-ltb, le-ltb, le-leb, lt-leb}
 use Rattle.std.proofs.lemmas.Bool.Decides.{nat_tests}
 use Rattle.std.proofs.lemmas.List.{append-nil}
@@ -8,24 +8,25 @@ use Rattle.acpi_base.specs.declared.error.Error.{Error}
 use Rattle.acpi_base.specs.Bytes.{le}
 use Rattle.acpi_base.specs.Number.{number_limit, number_bytes}
 use Rattle.acpi_term.specs.declared.op.Op.{Op}
-use Rattle.acpi_term.specs.declared.op.Op.TheVariants.{CreateField}
+use Rattle.acpi_term.specs.declared.op.Op.TheVariants.{CreateField, Acquire, Release}
 use Rattle.acpi_term.specs.declared.mode.Mode.{Mode}
-use Rattle.acpi_term.specs.Tree.{Entry, Head, number, ones, string, local, arg, call, def_scope, def_device, def_method, def_power_res, def_field, def_op_region, def_name, def_mutex, def_acquire, def_release, def_buffer, def_package, def_var_package, def_if, def_while, def_else, op, def_external, def_leveled_method, def_processor, def_thermal_zone, def_roomy_package, def_index_field, def_bank_field, def_fatal, match_test, unread}
-use Rattle.acpi_term.specs.Name.{IsNameIn}
+use Rattle.acpi_term.specs.Tree.{Entry, Head, number, ones, string, local, arg, call, def_scope, def_device, def_method, def_power_res, def_field, def_op_region, def_name, def_mutex, def_acquire, def_release, def_buffer, def_package, def_var_package, def_if, def_while, def_else, op, def_external, def_leveled_method, def_processor, def_thermal_zone, def_roomy_package, def_index_field, def_bank_field, def_fatal, match_test, def_timeout, unread}
+use Rattle.acpi_term.specs.Name.{IsNameIn, begins_name}
 use Rattle.acpi_term.specs.Length.{with_length, FrameFits}
 use Rattle.acpi_term.specs.declared.language.Language.{Language}
 use Rattle.acpi_term.specs.declared.language.Language.TheVariants.{Standard}
-use Rattle.acpi_term.specs.Language.{Grammar, has}
-use Rattle.acpi_term.specs.Operator.{opcode, operands, language_of, op_of}
+use Rattle.acpi_term.specs.Language.{Grammar, is_standard, has}
+use Rattle.acpi_term.specs.Operator.{opcode, operands, language_of, op_of, place}
 use Rattle.acpi_term.specs.Row.{entries_bytes, field_flags, method_flags, leveled_flags}
-use Rattle.acpi_term.specs.Spelling.{spelled, arguments, is_test, AreStandardEntries, EntriesFit, IsLegal}
-use Rattle.acpi_term.specs.Reading.{Fault, Bad, name_in, begins_name, After, named_at, define_after, release_after, mutex_after, region_after, acquire_after, external_after, Inside, framed_at, scope_inside, device_inside, thermal_inside, method_inside, processor_inside, index_inside, bank_inside, power_inside, field_inside, fatal_at, opcode_at, Opened, follows, fills, packs, rooms, begins, banks, head_at, open_at}
+use Rattle.acpi_term.specs.Spelling.{spelled, arguments, IsPlain, AreStandardEntries, EntriesFit, IsUnnamed, takes_names, IsLegal}
+use Rattle.acpi_term.specs.Reading.{Fault, Bad, name_in, names_first, After, named_at, define_after, release_after, mutex_after, region_after, acquire_after, external_after, Inside, framed_at, scope_inside, device_inside, thermal_inside, method_inside, processor_inside, index_inside, bank_inside, power_inside, field_inside, fatal_at, opcode_at, Opened, follows, fills, packs, rooms, begins, banks, head_at, open_at}
 use Rattle.acpi_term.proofs.Names.{name_in_again}
-use Rattle.acpi_term.proofs.Beginnings.{name_begins}
+use Rattle.acpi_term.proofs.Beginnings.{name_begins, name_first}
 use Rattle.acpi_term.proofs.Texts.{text_again}
 use Rattle.acpi_term.proofs.Frames.{high_again, frame_again}
 use Rattle.acpi_term.proofs.Constants.{number_limit_few}
 use Rattle.acpi_term.proofs.Entries.{entries_again}
+use Rattle.acpi_term.proofs.Operators.{unnamed_first}
 
 -- a head with n children, whose spellings joined are the bytes inside, where it is opened
 abbrev pub opened : Language → Head → ℕ → ℕ → List ℕ → List ℕ → Opened
@@ -159,16 +160,37 @@ module _ (g : Grammar) (m : Mode) where
       let at : opcode_at g.language (104 + k) rest ≡ Ok (follows (arg (104 + k - 104)) 0 0 rest) = grind (arith, nat_tests) in
       rw other (at ∙ rw back refl)
 
-  op_opens : (o : Op) (rest : List ℕ) → head_at g m (opcode o ++ rest) ≡ cond (has g.language (language_of o)) (Ok (follows (op o) 0 (operands o) rest)) (Err Bad)
-  unfolding head_at op_of
-  op_opens CreateField rest = refl
-  op_opens o rest = refl
+  -- where none may stand over a name, the rest begins no name
+  abbrev OverUnnamed : Op → List ℕ → Type 0
+  OverUnnamed o rest = takes_names (place Standard o) ≡ false → names_first rest ≡ false
 
-  op_in_opens : (o : Op) (rest : List ℕ) → has g.language (language_of o) ≡ true → head_at g m (opcode o ++ rest) ≡ Ok (follows (op o) 0 (operands o) rest)
-  op_in_opens o rest within = op_opens o rest ∙ rw within refl
+  op_opens : (o : Op) (rest : List ℕ) → OverUnnamed o rest → has g.language (language_of o) ≡ true → head_at g m (opcode o ++ rest) ≡ Ok (follows (op o) 0 (operands o) rest)
+  unfolding head_at op_of
+  op_opens CreateField rest none within = refl
+  op_opens Acquire rest none within = rw (within, none refl) refl
+  op_opens Release rest none within = rw (within, none refl) refl
+  op_opens o rest none within = ap (λ (t : Bool). cond t (Ok (follows (op o) 0 (operands o) rest)) (Err Bad)) within
+
+  -- inside of an operator
+  over_unnamed : (o : Op) (inside after : List ℕ) → IsUnnamed (place Standard o) inside → OverUnnamed o (inside ++ after)
+  over_unnamed Acquire inside after none over = unnamed_first inside after none
+  over_unnamed Release inside after none over = unnamed_first inside after none
+  over_unnamed o inside after none over = absurd cc
 
   abbrev IsFurther : Type 0
   IsFurther = has g.language Standard ≡ true
+
+  none_first : (t : Bool) → (t && false) ≡ false
+  none_first true = refl
+  none_first false = refl
+
+  acquire_opens : (rest : List ℕ) → names_first rest ≡ true → head_at g m (91 ∷ 35 ∷ rest) ≡ named_at g.language acquire_after rest
+  unfolding head_at
+  acquire_opens rest first = rw (first, none_first (is_standard g.language)) refl
+
+  release_opens : (rest : List ℕ) → names_first rest ≡ true → head_at g m (91 ∷ 39 ∷ rest) ≡ named_at g.language release_after rest
+  unfolding head_at
+  release_opens rest first = rw (first, none_first (is_standard g.language)) refl
 
   external_opens : (rest : List ℕ) → IsFurther → head_at g m (21 ∷ rest) ≡ named_at g.language external_after rest
   unfolding head_at
@@ -194,8 +216,8 @@ module _ (g : Grammar) (m : Mode) where
   unfolding head_at
   fatal_opens rest more = rw more refl
 
-  -- a head that fits is opened where it is spelled, if no test stands there; where it has no children, nothing is inside
-  head_again : (h : Head) (w n : ℕ) (inside after : List ℕ) → IsLegal g m h w n inside → is_test g.language m ≡ false → (n ≡ 0 → inside ≡ []) → head_at g m (spelled h w n inside ++ after) ≡ Ok (opened g.language h w n inside after)
+  -- a head that fits is opened where it is spelled, if a term stands there; where it has no children, nothing is inside
+  head_again : (h : Head) (w n : ℕ) (inside after : List ℕ) → IsLegal g m h w n inside → IsPlain g.language m → (n ≡ 0 → inside ≡ []) → head_at g m (spelled h w n inside ++ after) ≡ Ok (opened g.language h w n inside after)
   unfolding head_at
   head_again (number v) w n inside after f plain nothing = rw (append_assoc (number_bytes v w) inside after, f.takes) (number_opens v w (inside ++ after) f.fits)
   head_again ones w n inside after f plain nothing = rw (f.fits, f.takes) refl
@@ -224,9 +246,12 @@ module _ (g : Grammar) (m : Mode) where
       rw (f.fits, f.takes) (ap (λ (l : List ℕ). head_at g m (91 ∷ 1 ∷ l)) (regroup name (level ∷ []) inside after) ∙ named_opens g.language mutex_after name (level ∷ (inside ++ after)) f.is_standard.0)
   head_again (def_acquire name timeout) w n inside after f plain nothing =
       rw (f.fits, f.takes)
-      (ap (λ (l : List ℕ). head_at g m (91 ∷ 35 ∷ l)) (regroup name (le 2 timeout) inside after) ∙ named_opens g.language acquire_after name (le 2 timeout ++ (inside ++ after)) f.is_standard.0
+      (ap (λ (l : List ℕ). head_at g m (91 ∷ 35 ∷ l)) (regroup name (le 2 timeout) inside after) ∙ acquire_opens (name ++ (le 2 timeout ++ (inside ++ after))) (name_first g.language name (le 2 timeout ++ (inside ++ after)) f.is_standard.0) ∙ named_opens g.language acquire_after name (le 2 timeout ++ (inside ++ after)) f.is_standard.0
       ∙ rw (high_again 2 timeout (inside ++ after) f.is_standard.1) refl)
-  head_again (def_release name) w n inside after f plain nothing = rw (f.fits, f.takes) (ap (λ (l : List ℕ). head_at g m (91 ∷ 39 ∷ l)) (append_assoc name inside after) ∙ named_opens g.language release_after name (inside ++ after) f.is_standard)
+  head_again (def_release name) w n inside after f plain nothing =
+      rw (f.fits, f.takes)
+      (ap (λ (l : List ℕ). head_at g m (91 ∷ 39 ∷ l)) (append_assoc name inside after) ∙ release_opens (name ++ (inside ++ after)) (name_first g.language name (inside ++ after) f.is_standard)
+      ∙ named_opens g.language release_after name (inside ++ after) f.is_standard)
   head_again (def_buffer bytes) w n inside after f plain nothing = rw (frame_again w (inside ++ bytes) after f.fits) refl
   head_again def_package w n inside after f plain nothing = rw (frame_again w (n ∷ (inside ++ [])) after f.fits, append-nil inside) (package_choice (has g.language Standard) w n inside after)
   head_again (def_external name kind args) w n inside after f plain nothing =
@@ -259,16 +284,20 @@ module _ (g : Grammar) (m : Mode) where
   head_again def_if w n inside after f plain nothing = rw (frame_again w (inside ++ []) after f.fits, append-nil inside) refl
   head_again def_while w n inside after f plain nothing = rw (frame_again w (inside ++ []) after f.fits, append-nil inside) refl
   head_again def_else w n inside after f plain nothing = rw (frame_again w (inside ++ []) after f.fits, append-nil inside) refl
-  head_again (op o) w n inside after f plain nothing = rw (f.fits, append_assoc (opcode o) inside after, f.takes) (op_in_opens o (inside ++ after) f.is_standard)
+  head_again (op o) w n inside after f plain nothing =
+      rw (f.fits, append_assoc (opcode o) inside after, f.takes) (op_opens o (inside ++ after) (over_unnamed o inside after f.over) f.is_standard)
   head_again (def_fatal kind code) w n inside after f plain nothing =
       rw (f.fits, f.takes)
       (ap (λ (l : List ℕ). head_at g m (91 ∷ 50 ∷ kind ∷ l)) (append_assoc (le 4 code) inside after) ∙ fatal_opens (kind ∷ (le 4 code ++ (inside ++ after))) f.is_standard.0
       ∙ rw (high_again 4 code (inside ++ after) f.is_standard.2) refl)
-  head_again (match_test k) w n inside after f plain nothing = let clash : true ≡ false = sym f.stands ∙ plain in absurd cc
+  head_again (match_test k) w n inside after f plain nothing = let clash : true ≡ false = sym f.stands ∙ plain.0 in absurd cc
+  head_again (def_timeout t) w n inside after f plain nothing = let clash : true ≡ false = sym f.stands.1 ∙ plain.1 in absurd cc
   head_again (unread error bytes) w n inside after f plain nothing = absurd f.is_standard
 
   -- the same in every place
   pub open_again : (h : Head) (w n : ℕ) (inside after : List ℕ) → IsLegal g m h w n inside → (n ≡ 0 → inside ≡ []) → open_at g m (spelled h w n inside ++ after) ≡ Ok (opened g.language h w n inside after)
   unfolding open_at
   open_again (match_test k) w n inside after f nothing = rw (f.stands, f.fits, f.takes, f.is_standard.0, le-leb k 5 f.is_standard.1) refl
-  open_again h w n inside after f nothing = rw f.stands (head_again h w n inside after f f.stands nothing)
+  open_again (def_timeout t) w n inside after f nothing =
+      rw (f.stands.0, f.stands.1, f.fits, f.takes, append_assoc (le 2 t) inside after, f.is_standard.0, high_again 2 t (inside ++ after) f.is_standard.1) refl
+  open_again h w n inside after f nothing = rw (f.stands.0, f.stands.1) (head_again h w n inside after f f.stands nothing)

@@ -1,12 +1,17 @@
 -- Operators: what is read is written so.
-use Rattle.std.proofs.Common.{◌≡◌, ℕ, ◌≤◌, Bool, true, false, cond, List, [], ◌∷◌, length, Option, Some, None, refl, sym, ap, ◌∙◌, arith}
+use Rattle.std.proofs.Common.{◌≡◌, ℕ, ◌<◌, ◌≤◌, Bool, true, false, cond, List, [], ◌∷◌, ◌++◌, length, Option, Some, None, refl, sym, ap, subst, ◌∙◌, arith}
 use Rattle.std.specs.Prelude.{slice_index}
 use Rattle.std.specs.List.{find}
 use Rattle.std.specs.Str.{bytes_eq}
 use Rattle.std.proofs.lemmas.Slice.Eq.{bytes_eq-Decides}
 use Rattle.acpi_term.specs.declared.op.Op.{Op}
-use Rattle.acpi_term.specs.declared.op.Op.TheVariants.{CreateField}
-use Rattle.acpi_term.specs.Operator.{opcode, operators, op_of}
+use Rattle.acpi_term.specs.declared.language.Language.TheVariants.{Standard}
+use Rattle.acpi_term.specs.declared.mode.Mode.{Mode}
+use Rattle.acpi_term.specs.declared.mode.Mode.TheVariants.{Acquired, Released}
+use Rattle.acpi_term.specs.declared.op.Op.TheVariants.{CreateField, Acquire, Release}
+use Rattle.acpi_term.specs.Operator.{opcode, operators, op_of, place}
+use Rattle.acpi_term.specs.Reading.{names_first}
+use Rattle.acpi_term.specs.Spelling.{BeginsNoName, IsUnnamed, takes_names}
 
 module _ {X : Type 0} (p : X → Bool) where
   first_passes : (x y : X) (rest : Option X) (b : Bool) → p x ≡ b → (rest ≡ Some y → p y ≡ true) → cond b (Some x) rest ≡ Some y → p y ≡ true
@@ -48,3 +53,25 @@ none_of_two code two other =
     none_or code (op_of code) refl (λ o is.
     let same : opcode o ≡ code = op_is code o is in
     other (ap (λ (l : List ℕ). slice_index l 0) (sym same) ∙ lead_of_two o (ap length same ∙ two)))
+
+-- ---- operators over what is no name
+
+-- an Acquire and a Release alone
+pub plain_op : (o : Op) → (opcode o ≡ 91 ∷ 35 ∷ [] → ⊥) → (opcode o ≡ 91 ∷ 39 ∷ [] → ⊥) → takes_names (place Standard o) ≡ true
+plain_op Acquire p q = absurd (p refl)
+plain_op Release p q = absurd (q refl)
+plain_op o p q = refl
+
+pub any_inside : (m : Mode) (inside : List ℕ) → takes_names m ≡ true → IsUnnamed m inside
+any_inside Acquired inside h = absurd cc
+any_inside Released inside h = absurd cc
+any_inside m inside h = tt
+
+-- bytes that begin as these do, which begin no name
+pub first_unnamed : (rest inside after : List ℕ) → names_first rest ≡ false → rest ≡ inside ++ after → 0 < length inside → BeginsNoName inside
+first_unnamed rest [] after none is some = absurd (omega arith)
+first_unnamed rest (b ∷ inside) after none is some = subst (λ l. names_first l ≡ false) is none
+
+pub unnamed_first : (inside after : List ℕ) → BeginsNoName inside → names_first (inside ++ after) ≡ false
+unnamed_first [] after none = absurd none
+unnamed_first (b ∷ inside) after none = none

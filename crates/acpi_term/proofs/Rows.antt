@@ -9,13 +9,17 @@ use Rattle.acpi_base.specs.declared.error.Error.TheVariants.{Memory, PkgLength}
 use Rattle.acpi_base.specs.Object.{Object, whole, ended, all_of}
 use Rattle.acpi_base.proofs.Lists.{joined_whole, chain_whole}
 use Rattle.acpi_term.specs.declared.mode.Mode.{Mode}
+use Rattle.acpi_term.specs.declared.op.Op.{Op}
+use Rattle.acpi_term.specs.declared.op.Op.TheVariants.{CreateField, Acquire, Release}
 use Rattle.acpi_term.specs.declared.language.Language.{Language}
-use Rattle.acpi_term.specs.declared.language.Language.TheVariants.{Written}
-use Rattle.acpi_term.specs.Language.{Grammar, written_grammar}
-use Rattle.acpi_term.specs.Tree.{Entry, named, reserved, access_as, extended_access_as, connection, connection_buffer, Head, number, def_field, def_index_field, def_bank_field, match_test, Terms, end, term, count, one}
+use Rattle.acpi_term.specs.declared.language.Language.TheVariants.{Written, Standard}
+use Rattle.acpi_term.specs.Language.{Grammar, written_grammar, has}
+use Rattle.acpi_term.specs.Tree.{Entry, named, reserved, access_as, extended_access_as, connection, connection_buffer, Head, number, def_field, def_index_field, def_bank_field, op, match_test, def_timeout, Terms, end, term, count, one}
 use Rattle.acpi_term.specs.Length.{limit, least_width, with_length, FrameFits}
 use Rattle.acpi_term.specs.Row.{entry_length, entries_end, Layout, bare, framed, layout, own, own_width, frame_end, frame, around, row, layout_width, writer_width}
-use Rattle.acpi_term.specs.Spelling.{laid, spelled, spelling, inner, next, Stands, IsStandard, EntryFits, EntriesFit, HasLeastWidth, HaveLeastWidths, LayoutFits, HeadFits, IsWritten, Takes, IsLegal, Spells, SpellEach, SpellsIn, SpellEachIn}
+use Rattle.acpi_term.specs.Spelling.{laid, spelled, spelling, inner, next, Stands, IsStandard, EntryFits, EntriesFit, HasLeastWidth, HaveLeastWidths, LayoutFits, HeadFits, IsWritten, takes_names, IsOver, TakesNames, Takes, IsLegal, Spells, SpellEach, SpellsIn, SpellEachIn}
+use Rattle.acpi_term.specs.Operator.{place, language_of}
+use Rattle.acpi_term.proofs.Operators.{any_inside}
 use Rattle.acpi_term.proofs.Lengths.{width_carries, width_holds, number_carries}
 
 pub ended_none : (e : Option Error) (o : Object) → (ended e o).end ≡ None → (e ≡ None) × (o.end ≡ None) × ((ended e o).front ≡ o.front)
@@ -75,6 +79,10 @@ same_layout : (h : Head) (n : ℕ) (inside : List ℕ) → layout h (own_width h
 same_layout (number v) n inside = refl
 same_layout head n inside = refl
 
+stands_over : (h : Head) (inside : List ℕ) → TakesNames h → IsOver h inside
+stands_over (op o) inside names = any_inside (place Standard o) inside names
+stands_over h inside names = tt
+
 -- ---- rows
 
 module _ (g : Grammar) where
@@ -89,48 +97,60 @@ module _ (g : Grammar) where
       rw (chain_whole o (all_of os) both.0)
       (((s.0.0.0, s.0.0.1, rest.0.0), ap (λ (l : List ℕ). l ++ (all_of os).front) first ∙ ap (λ (l : List ℕ). spelled k w (count c) (spelling c) ++ l) rest.0.1), omega (arith, rest.1))
 
-  over_means : (m : Mode) (h : Head) (n : ℕ) (bytes : List ℕ) (ts : Terms) → n ≡ count ts → Stands g.language m h → Takes g.arity m h n → IsStandard g.language h → IsWritten h → own h n ≡ None → SpellsIn g (inner g.language h) bytes ts
+  over_means : (m : Mode) (h : Head) (n : ℕ) (bytes : List ℕ) (ts : Terms) → n ≡ count ts → Stands g.language m h → Takes g.arity m h n → IsStandard g.language h → IsWritten h → TakesNames h → own h n ≡ None → SpellsIn g (inner g.language h) bytes ts
       → (around (layout h (own_width h) n) (whole bytes)).end ≡ None → SpellsIn g m (around (layout h (own_width h) n) (whole bytes)).front (one h (writer_width h n bytes) ts)
-  over_means m h n bytes ts same stands takes std written owns spells h_whole =
+  over_means m h n bytes ts same stands takes std written names owns spells h_whole =
       let w = writer_width h n bytes in
       let front : (around (layout h (own_width h) n) (whole bytes)).front ≡ spelled h w n bytes = laid_around (layout h (own_width h) n) (own_width h) bytes h_whole ∙ ap (λ (l : Layout). laid l w bytes) (same_layout h n bytes) in
-      let head : IsLegal g m h w n bytes = record { stands = stands; takes = takes; is_standard = std; owns = owns; fits = written_fits g.language h n bytes std written owns h_whole } in
+      let head : IsLegal g m h w n bytes = record { stands = stands; takes = takes; is_standard = std; owns = owns; fits = written_fits g.language h n bytes std written owns h_whole; over = stands_over h bytes names } in
       let counted : IsLegal g m h w (count ts) bytes = subst (λ (k : ℕ). IsLegal g m h w k bytes) same head in (
         (subst (λ (l : List ℕ). IsLegal g m h w (count ts) l) spells.1 counted, spells.0, tt),
         front ∙ ap (λ (k : ℕ). spelled h w k bytes) same ∙ ap (spelled h w (count ts)) spells.1 ∙ sym (append-nil (spelled h w (count ts) (spelling ts))),
       )
 
-pub rows_over_mean_in : (g : Grammar) (m : Mode) (h : Head) (bytes : List ℕ) (ts : Terms) → Stands g.language m h → Takes g.arity m h (count ts) → IsStandard g.language h → IsWritten h → own h (count ts) ≡ None → SpellsIn g (inner g.language h) bytes ts
+pub rows_over_mean_in : (g : Grammar) (m : Mode) (h : Head) (bytes : List ℕ) (ts : Terms) → Stands g.language m h → Takes g.arity m h (count ts) → IsStandard g.language h → IsWritten h → TakesNames h → own h (count ts) ≡ None → SpellsIn g (inner g.language h) bytes ts
     → (around (layout h (own_width h) (count ts)) (whole bytes)).end ≡ None → SpellsIn g m (around (layout h (own_width h) (count ts)) (whole bytes)).front (one h (writer_width h (count ts) bytes) ts)
 rows_over_mean_in g m h bytes ts = over_means g m h (count ts) bytes ts refl
 
-pub rows_mean_in : (g : Grammar) (m : Mode) (h : Head) (objects : List Object) (ts : Terms) → Stands g.language m h → Takes g.arity m h (length objects) → IsStandard g.language h → IsWritten h → SpellEachIn g (inner g.language h) objects ts
+pub rows_mean_in : (g : Grammar) (m : Mode) (h : Head) (objects : List Object) (ts : Terms) → Stands g.language m h → Takes g.arity m h (length objects) → IsStandard g.language h → IsWritten h → TakesNames h → SpellEachIn g (inner g.language h) objects ts
     → (row h objects).end ≡ None → SpellsIn g m (row h objects).front (one h (writer_width h (length objects) (all_of objects).front) ts)
-rows_mean_in g m h objects ts stands takes std written spells h_whole =
+rows_mean_in g m h objects ts stands takes std written names spells h_whole =
     let l = layout h (own_width h) (length objects) in
     let a = ended_none (own h (length objects)) (around l (all_of objects)) h_whole in
     let b = around_whole l (all_of objects) a.1 in
     let d = each_in g (inner g.language h) objects ts spells b.0 in
-    let e = over_means g m h (length objects) (all_of objects).front ts (sym d.1) stands takes std written a.0 d.0 b.1 in
+    let e = over_means g m h (length objects) (all_of objects).front ts (sym d.1) stands takes std written names a.0 d.0 b.1 in
     (e.0, a.2 ∙ b.2 ∙ e.1)
 
 -- ---- the same of what this library writes
 
--- no test is written, so a head that is written stands in every place
+-- neither a test nor a timeout is written, so a head that is written stands in every place
 stands_written : (m : Mode) (h : Head) → IsStandard Written h → Stands Written m h
 stands_written m (match_test k) std = absurd cc
-stands_written m h std = refl
+stands_written m (def_timeout t) std = absurd cc
+stands_written m h std = (refl, refl)
+
+-- each operator that is written takes names
+op_names : (o : Op) → has Written (language_of o) ≡ true → takes_names (place Standard o) ≡ true
+op_names CreateField std = refl
+op_names Acquire std = absurd cc
+op_names Release std = absurd cc
+op_names o std = refl
+
+written_names : (h : Head) → IsStandard Written h → TakesNames h
+written_names (op o) std = op_names o std
+written_names h std = tt
 
 pub each : (arity : List ℕ → ℕ) (m : Mode) (objects : List Object) (ts : Terms) → SpellEach arity m objects ts → (all_of objects).end ≡ None → Spells arity m (all_of objects).front ts × (count ts ≡ length objects)
 each arity = each_in (written_grammar arity)
 
 pub rows_over_mean : (arity : List ℕ → ℕ) (m : Mode) (h : Head) (bytes : List ℕ) (ts : Terms) → Takes arity m h (count ts) → IsStandard Written h → IsWritten h → own h (count ts) ≡ None → Spells arity (inner Written h) bytes ts
     → (around (layout h (own_width h) (count ts)) (whole bytes)).end ≡ None → Spells arity m (around (layout h (own_width h) (count ts)) (whole bytes)).front (one h (writer_width h (count ts) bytes) ts)
-rows_over_mean arity m h bytes ts takes std = rows_over_mean_in (written_grammar arity) m h bytes ts (stands_written m h std) takes std
+rows_over_mean arity m h bytes ts takes std written = rows_over_mean_in (written_grammar arity) m h bytes ts (stands_written m h std) takes std written (written_names h std)
 
 pub rows_mean : (arity : List ℕ → ℕ) (m : Mode) (h : Head) (objects : List Object) (ts : Terms) → Takes arity m h (length objects) → IsStandard Written h → IsWritten h → SpellEach arity (inner Written h) objects ts
     → (row h objects).end ≡ None → Spells arity m (row h objects).front (one h (writer_width h (length objects) (all_of objects).front) ts)
-rows_mean arity m h objects ts takes std = rows_mean_in (written_grammar arity) m h objects ts (stands_written m h std) takes std
+rows_mean arity m h objects ts takes std written = rows_mean_in (written_grammar arity) m h objects ts (stands_written m h std) takes std written (written_names h std)
 
 -- ---- refusals
 

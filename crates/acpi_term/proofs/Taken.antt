@@ -14,7 +14,7 @@ use Rattle.acpi_term.specs.Reading.{Bad, ◌>>=◌, least_of, One, assembled, Op
 use Rattle.acpi_term.proofs.Steps.{bind_ok, ok_is, passed, chosen, admitted}
 use Rattle.acpi_term.proofs.Entries.{entries_takes}
 use Rattle.acpi_term.proofs.Openings.{OpenTakes, open_takes, flags_is}
-use Rattle.acpi_term.proofs.Again.{head_some, nothing_inside}
+use Rattle.acpi_term.proofs.Again.{head_some, nothing_inside, something_inside}
 
 -- a head, its width, its children and the bytes after it
 abbrev pub Found : Type 0
@@ -92,7 +92,7 @@ module _ (g : Grammar) where
 
     follows_takes : (h : Head) (w n : ℕ) (rest bytes : List ℕ) (m : Mode) (o : Terms × List ℕ) → OpenTakes g m bytes (follows h w n rest) → SeveralTaken d n (inner g.language h) rest o → OneTaken (suc d) m bytes (h, w, o.0, o.1)
     follows_takes h w n rest bytes m o t s =
-        let f = t.1 (spelling o.0) o.1 s.parts (λ z. nothing_inside o.0 (s.number ∙ z)) in
+        let f = t.1 (spelling o.0) o.1 s.parts (record { nothing = λ z. nothing_inside o.0 (s.number ∙ z); something = λ p. something_inside g (inner g.language h) o.0 s.fits (omega (arith, s.number, p)) }) in
         let g = subst (λ (k : ℕ). (bytes ≡ spelled h w k (spelling o.0) ++ o.1) × IsLegal g m h w k (spelling o.0)) (sym s.number) f in
         record { parts = g.0; head = g.1; children = s.fits; deep = omega (arith, s.deep); rest_fits = s.rest_fits }
 

@@ -29,7 +29,8 @@ RowsMean =
 abbrev pub RowsOverMean : Type 0
 RowsOverMean =
     (arity : List ℕ → ℕ) (m : Mode) (h : Head) (bytes : List ℕ) (ts : Terms)
-    → Takes arity m h (count ts) → IsStandard Written h → IsWritten h → own h (count ts) ≡ None → Spells arity (inner Written h) bytes ts
+    → Takes arity m h (count ts) → IsStandard Written h → IsWritten h → own h (count ts) ≡ None
+    → Spells arity (inner Written h) bytes ts
     → (around (layout h (own_width h) (count ts)) (whole bytes)).end ≡ None
     → Spells arity m (around (layout h (own_width h) (count ts)) (whole bytes)).front (one h (writer_width h (count ts) bytes) ts)
 

@@ -3,6 +3,7 @@ use Rattle.std.specs.Prelude.{◌≡◌, ℕ, zero, suc, ◌≤◌, ◌<◌, ◌
 use Rattle.std.specs.Prelude.{List, [], ◌∷◌}
 use Rattle.acpi_term.specs.declared.language.Language.{Language}
 use Rattle.acpi_term.specs.declared.language.Language.TheVariants.{Written, Standard}
+use Rattle.acpi_term.specs.Language.{is_standard}
 
 -- LeadNameChar: `A` to `Z` or `_`
 abbrev pub is_lead : ℕ → Bool
@@ -58,6 +59,10 @@ pub data IsNameString : List ℕ → Type 0 where
 abbrev pub IsNameIn : Language → List ℕ → Type 0
 IsNameIn Written s = IsName s
 IsNameIn Standard s = IsNameString s
+
+-- the first byte of a name of a language: that of a segment, DualNamePrefix, MultiNamePrefix, RootChar or ParentPrefixChar
+abbrev pub begins_name : Language → ℕ → Bool
+begins_name l b = is_lead b || b == 0x2e || b == 0x2f || b == 0x5c || (b == 0x5e && is_standard l)
 
 -- AsciiCharList (ACPI 6.5, 20.2.3): bytes 01 to 7F
 abbrev pub IsText : List ℕ → Type 0

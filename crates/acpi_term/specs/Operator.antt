@@ -5,7 +5,7 @@ use Rattle.std.specs.Str.{bytes_eq}
 use Rattle.acpi_term.specs.declared.language.Language.{Language}
 use Rattle.acpi_term.specs.declared.language.Language.TheVariants.{Written, Standard}
 use Rattle.acpi_term.specs.declared.mode.Mode.{Mode}
-use Rattle.acpi_term.specs.declared.mode.Mode.TheVariants.{Term, Element, Count, Searched}
+use Rattle.acpi_term.specs.declared.mode.Mode.TheVariants.{Term, Element, Count, Searched, Acquired, Released}
 use Rattle.acpi_term.specs.declared.op.Op.{Op}
 use Rattle.acpi_term.specs.declared.op.Op.TheVariants as op
 
@@ -104,6 +104,8 @@ facts op.Revision = other (0x5b ∷ 0x30 ∷ []) 0 (codes "revision")
 facts op.Debug = other (0x5b ∷ 0x31 ∷ []) 0 (codes "debug")
 facts op.Timer = other (0x5b ∷ 0x33 ∷ []) 0 (codes "timer")
 facts op.DataRegion = other (0x5b ∷ 0x88 ∷ []) 4 (codes "dataregion")
+facts op.Acquire = naming (0x5b ∷ 0x23 ∷ []) 2 (codes "acquire") Acquired
+facts op.Release = naming (0x5b ∷ 0x27 ∷ []) 1 (codes "release") Released
 
 abbrev pub opcode : Op → List ℕ
 opcode o = (facts o).opcode
@@ -136,7 +138,7 @@ operators =
     op.CreateWordField ∷ op.CreateByteField ∷ op.CreateBitField ∷ op.ToDecimalString ∷ op.ToHexString ∷ op.CopyObject ∷
     op.Continue ∷ op.Noop ∷ op.BreakPoint ∷ op.Event ∷ op.CondRefOf ∷ op.LoadTable ∷ op.Load ∷ op.Stall ∷ op.Sleep ∷
     op.Signal ∷ op.Wait ∷ op.Reset ∷ op.FromBCD ∷ op.ToBCD ∷ op.Unload ∷ op.Revision ∷ op.Debug ∷ op.Timer ∷
-    op.DataRegion ∷ []
+    op.DataRegion ∷ op.Acquire ∷ op.Release ∷ []
 
 -- the operator of an opcode
 unfoldable pub op_of : List ℕ → Option Op

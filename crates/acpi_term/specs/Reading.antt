@@ -1,9 +1,10 @@
 -- Reading terms from left to right, up to a given depth. These functions don't define the spelling: proofs/Again and proofs/Taken
 -- show that they read exactly what is spelled, which is why bytes spell one list at most. They are in specs/ because the reader's
 -- code is compared with them, part by part. The contracts of the reader name the spelling alone.
-use Rattle.std.specs.Prelude.{ℕ, zero, suc, ◌+◌, ◌-◌, ◌*◌, ◌/◌, ◌%◌, ◌==◌, ◌&&◌, ◌||◌, nat_lt, nat_le, Bool}
+use Rattle.std.specs.Prelude.{ℕ, zero, suc, ◌+◌, ◌-◌, ◌*◌, ◌/◌, ◌%◌, ◌==◌, ◌&&◌, nat_lt, nat_le, Bool, false, not}
 use Rattle.std.specs.Prelude.{if◌then◌else◌, List, [], ◌∷◌, ◌++◌, length, take, drop, Option, Some, None, Result, Ok, Err}
 use Rattle.acpi_term.specs.declared.op.Op.{Op}
+use Rattle.acpi_term.specs.declared.op.Op.TheVariants.{Acquire, Release}
 use Rattle.acpi_term.specs.declared.mode.Mode.{Mode}
 use Rattle.acpi_term.specs.declared.mode.Mode.TheVariants.{Term, Element}
 use Rattle.acpi_term.specs.Tree.{Entry, named, reserved, access_as, extended_access_as, connection, connection_buffer}
@@ -13,13 +14,13 @@ use Rattle.acpi_term.specs.Tree.{def_name, def_mutex, def_acquire, def_release, 
 use Rattle.acpi_term.specs.Tree.{def_var_package, def_if, def_while, def_else, op, Terms, end, term, count}
 use Rattle.acpi_term.specs.Tree.{def_external, def_leveled_method, def_processor, def_thermal_zone, def_roomy_package}
 use Rattle.acpi_term.specs.Tree.{def_index_field, def_bank_field}
-use Rattle.acpi_term.specs.Tree.{def_fatal, match_test}
-use Rattle.acpi_term.specs.Name.{is_lead, is_segment}
+use Rattle.acpi_term.specs.Tree.{def_fatal, match_test, def_timeout}
+use Rattle.acpi_term.specs.Name.{is_segment, begins_name}
 use Rattle.acpi_term.specs.declared.language.Language.{Language}
 use Rattle.acpi_term.specs.declared.language.Language.TheVariants.{Written, Standard}
 use Rattle.acpi_term.specs.Language.{Grammar, is_standard, has}
 use Rattle.acpi_term.specs.Operator.{operands, op_of, language_of}
-use Rattle.acpi_term.specs.Spelling.{arguments, inner, next, is_test}
+use Rattle.acpi_term.specs.Spelling.{arguments, inner, next, is_test, is_timeout}
 
 -- nested deeper than allowed, or any other fault
 pub data Fault : Type 0 where
@@ -179,9 +180,6 @@ pub data Opened : Type 0 where
   -- the width of a BankField, its names, and the bytes inside: a value, and the others
   banks : ℕ → List ℕ → List ℕ → List ℕ → List ℕ → Opened
 
-abbrev pub begins_name : Language → ℕ → Bool
-begins_name l b = is_lead b || b == 0x2e || b == 0x2f || b == 0x5c || (b == 0x5e && is_standard l)
-
 abbrev pub number_at : ℕ → List ℕ → Result Opened Fault
 number_at w bytes = high_at w bytes >>= λ h. Ok (follows (number h.0) w 0 h.1)
 
@@ -293,13 +291,23 @@ abbrev pub operator_at : Language → Option Op → List ℕ → Result Opened F
 operator_at l None rest = Err Bad
 operator_at l (Some o) rest = if has l (language_of o) then Ok (follows (op o) 0 (operands o) rest) else Err Bad
 
+-- the first of the bytes begins a name of the standard
+abbrev pub names_first : List ℕ → Bool
+names_first [] = false
+names_first (b ∷ rest) = begins_name Standard b
+
+-- a name and what is read after it; in the standard also an operator over something else
+abbrev pub named_or_operator_at : Language → After → Op → List ℕ → Result Opened Fault
+named_or_operator_at l k o rest =
+    if is_standard l && not (names_first rest) then Ok (follows (op o) 0 (operands o) rest) else named_at l k rest
+
 -- the second byte of an opcode of two bytes
 abbrev pub extended_at : Language → List ℕ → Result Opened Fault
 extended_at l [] = Err Bad
 extended_at l (b ∷ rest) =
     if b == 0x01 then named_at l mutex_after rest
-    else (if b == 0x23 then named_at l acquire_after rest
-    else (if b == 0x27 then named_at l release_after rest
+    else (if b == 0x23 then named_or_operator_at l acquire_after Acquire rest
+    else (if b == 0x27 then named_or_operator_at l release_after Release rest
     else (if b == 0x32 then further l (fatal_at rest)
     else (if b == 0x80 then named_at l region_after rest
     else (if b == 0x81 then framed_at l (field_inside l) rest
@@ -344,8 +352,12 @@ abbrev pub test_at : Language → List ℕ → Result Opened Fault
 test_at l [] = Err Bad
 test_at l (k ∷ rest) = further l (if nat_le k 5 then Ok (follows (match_test k) 0 1 rest) else Err Bad)
 
+-- the timeout of an Acquire
+abbrev pub timeout_at : Language → List ℕ → Result Opened Fault
+timeout_at l bytes = further l (high_at 2 bytes >>= λ h. Ok (follows (def_timeout h.0) 0 0 h.1))
+
 module _ (g : Grammar) where
-  -- where no test stands
+  -- where a term stands
   unfoldable pub head_at : Mode → List ℕ → Result Opened Fault
   head_at m [] = Err Bad
   head_at m (b ∷ rest) =
@@ -354,7 +366,10 @@ module _ (g : Grammar) where
       else opcode_at g.language b rest
 
   unfoldable pub open_at : Mode → List ℕ → Result Opened Fault
-  open_at m bytes = if is_test g.language m then test_at g.language bytes else head_at m bytes
+  open_at m bytes =
+      if is_test g.language m then test_at g.language bytes
+      else (if is_timeout g.language m then timeout_at g.language bytes
+      else head_at m bytes)
 
 -- ---- terms
 

@@ -12,7 +12,7 @@ use Rattle.acpi_term.specs.Tree.{def_method, def_power_res, def_field, def_op_re
 use Rattle.acpi_term.specs.Tree.{def_release, def_buffer, def_package, def_var_package, def_if, def_while, def_else, op}
 use Rattle.acpi_term.specs.Tree.{def_external, def_leveled_method, def_processor, def_thermal_zone, def_roomy_package}
 use Rattle.acpi_term.specs.Tree.{def_index_field, def_bank_field}
-use Rattle.acpi_term.specs.Tree.{def_fatal, match_test, unread}
+use Rattle.acpi_term.specs.Tree.{def_fatal, match_test, def_timeout, unread}
 use Rattle.acpi_term.specs.Length.{least_width, length_bytes, with_length}
 use Rattle.acpi_term.specs.Operator.{opcode}
 
@@ -139,6 +139,7 @@ layout (def_bank_field name bank access lock update entries) w n = framed (0x5b 
     (field_flags access lock update ∷ entries_bytes entries)
 layout (def_fatal kind code) w n = bare (0x5b ∷ 0x32 ∷ kind ∷ le 4 code)
 layout (match_test k) w n = bare (k ∷ [])
+layout (def_timeout t) w n = bare (le 2 t)
 layout (unread error bytes) w n = bare bytes
 
 -- the error of a head's own values, with n children

@@ -5,6 +5,7 @@ use Rattle.acpi_base.specs.Number.{number_limit}
 use Rattle.acpi_base.specs.Object.{Object}
 use Rattle.acpi_term.specs.declared.mode.Mode.{Mode}
 use Rattle.acpi_term.specs.declared.mode.Mode.TheVariants.{Term, Element, Count, Searched, FirstTest, SecondTest}
+use Rattle.acpi_term.specs.declared.mode.Mode.TheVariants.{Acquired, Released, Timeout}
 use Rattle.acpi_term.specs.Tree.{Entry, named, reserved, access_as, extended_access_as, connection, connection_buffer}
 use Rattle.acpi_term.specs.Tree.{Head, number, string, call, def_scope, def_device}
 use Rattle.acpi_term.specs.Tree.{def_method, def_power_res, def_field, def_op_region, def_name, def_mutex}
@@ -12,9 +13,9 @@ use Rattle.acpi_term.specs.Tree.{def_acquire, def_release, def_buffer, def_packa
 use Rattle.acpi_term.specs.Tree.{def_if, def_while, def_else, op, Terms, end, term, count, one}
 use Rattle.acpi_term.specs.Tree.{def_external, def_leveled_method, def_processor, def_thermal_zone, def_roomy_package}
 use Rattle.acpi_term.specs.Tree.{def_index_field, def_bank_field}
-use Rattle.acpi_term.specs.Tree.{def_fatal, match_test, unread}
+use Rattle.acpi_term.specs.Tree.{def_fatal, match_test, def_timeout, unread}
 use Rattle.acpi_term.specs.declared.language.Language.TheVariants.{Written, Standard}
-use Rattle.acpi_term.specs.Name.{AreSegments, IsNameIn, IsText}
+use Rattle.acpi_term.specs.Name.{AreSegments, IsNameIn, IsText, begins_name}
 use Rattle.acpi_term.specs.Length.{limit, least_width, with_length, FrameFits}
 use Rattle.acpi_term.specs.declared.language.Language.{Language}
 use Rattle.acpi_term.specs.Language.{Grammar, has, written_grammar}
@@ -55,6 +56,9 @@ next Count = Element
 next Searched = FirstTest
 next FirstTest = SecondTest
 next SecondTest = Term
+next Acquired = Timeout
+next Released = Term
+next Timeout = Term
 
 -- a test of a Match stands in this place of a language
 abbrev pub is_test : Language → Mode → Bool
@@ -63,10 +67,21 @@ is_test Standard FirstTest = true
 is_test Standard SecondTest = true
 is_test Standard _ = false
 
--- the head may stand in this place of a language: a test in the place of one, and any other head in the others
+-- the timeout of an Acquire stands in this place of a language
+abbrev pub is_timeout : Language → Mode → Bool
+is_timeout Written m = false
+is_timeout Standard Timeout = true
+is_timeout Standard _ = false
+
+-- a term stands in this place of a language
+abbrev pub IsPlain : Language → Mode → Type 0
+IsPlain l m = (is_test l m ≡ false) × (is_timeout l m ≡ false)
+
+-- the head may stand in this place of a language: a test or a timeout in the place of one, and any other head in the others
 abbrev pub Stands : Language → Mode → Head → Type 0
 Stands l m (match_test k) = is_test l m ≡ true
-Stands l m _ = is_test l m ≡ false
+Stands l m (def_timeout t) = (is_test l m ≡ false) × (is_timeout l m ≡ true)
+Stands l m _ = IsPlain l m
 
 -- ---- which terms have a spelling
 
@@ -115,6 +130,7 @@ IsStandard l (def_bank_field name bank access lock update entries) = (has l Stan
     × IsNameIn l bank × (access ≤ 5) × (lock ≤ 1) × (update ≤ 2) × AreStandardEntries l entries
 IsStandard l (def_fatal kind code) = (has l Standard ≡ true) × (kind < 2 ^ 8) × (code < 2 ^ 32)
 IsStandard l (match_test k) = (has l Standard ≡ true) × (k ≤ 5)
+IsStandard l (def_timeout t) = (has l Standard ≡ true) × (t < 2 ^ 16)
 IsStandard l (unread error bytes) = ⊥
 IsStandard l _ = Unit {0}
 
@@ -154,6 +170,33 @@ HeadFits (def_bank_field name bank access lock update entries) w n inside = Entr
     × LayoutFits (layout (def_bank_field name bank access lock update entries) w n) w inside
 HeadFits h w n inside = LayoutFits (layout h w n) w inside
 
+-- there is a first byte, and it begins no name
+abbrev pub BeginsNoName : List ℕ → Type 0
+BeginsNoName [] = ⊥
+BeginsNoName (b ∷ rest) = begins_name Standard b ≡ false
+
+-- the first operand in this place, which begins the bytes, is no name, if none may stand there
+abbrev pub IsUnnamed : Mode → List ℕ → Type 0
+IsUnnamed Acquired inside = BeginsNoName inside
+IsUnnamed Released inside = BeginsNoName inside
+IsUnnamed m inside = Unit {0}
+
+-- the first operand in this place may be a name
+abbrev pub takes_names : Mode → Bool
+takes_names Acquired = false
+takes_names Released = false
+takes_names m = true
+
+-- An Acquire and a Release stand over what is no name.
+abbrev pub IsOver : Head → List ℕ → Type 0
+IsOver (op o) inside = IsUnnamed (place Standard o) inside
+IsOver h inside = Unit {0}
+
+-- a head that may stand over a name
+abbrev pub TakesNames : Head → Type 0
+TakesNames (op o) = takes_names (place Standard o) ≡ true
+TakesNames h = Unit {0}
+
 -- the widths inside of a head are those that are written
 abbrev pub IsWritten : Head → Type 0
 IsWritten (def_field name access lock update entries) = HaveLeastWidths entries
@@ -170,6 +213,9 @@ module _ (arity : List ℕ → ℕ) where
   arguments Searched name = arity name
   arguments FirstTest name = 0
   arguments SecondTest name = 0
+  arguments Acquired name = arity name
+  arguments Released name = arity name
+  arguments Timeout name = 0
 
   -- the head may have n children
   abbrev pub Takes : Mode → Head → ℕ → Type 0
@@ -204,12 +250,13 @@ module _ (g : Grammar) where
     pub is_standard : IsStandard g.language h
     pub owns : own h n ≡ None
     pub fits : HeadFits h w n inside
+    pub over : IsOver h inside
 
   -- the terms have a spelling, if the first stands in this place
   abbrev pub AreLegal : Mode → Terms → Type 0
   AreLegal m end = Unit {0}
-  AreLegal m (term h w children others) = IsLegal m h w (count children) (spelling children) × AreLegal (inner g.language h) children
-      × AreLegal (next m) others
+  AreLegal m (term h w children others) = IsLegal m h w (count children) (spelling children)
+      × AreLegal (inner g.language h) children × AreLegal (next m) others
 
 -- the bytes spell these terms of a language, if the first stands in this place
 abbrev pub SpellsIn : Grammar → Mode → List ℕ → Terms → Type 0

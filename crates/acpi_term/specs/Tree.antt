@@ -69,6 +69,8 @@ pub data Head : Type 0 where
   def_fatal : ℕ → ℕ → Head
   -- a test of a Match: a MatchOpcode, whose operand is the child
   match_test : ℕ → Head
+  -- the timeout of an Acquire of an object that isn't a name
+  def_timeout : ℕ → Head
   -- bytes that are no term, up to the end of a list, and why: no language has it
   unread : ReadError → List ℕ → Head
 

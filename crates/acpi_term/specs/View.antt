@@ -7,7 +7,7 @@ use Rattle.acpi_term.specs.Tree.{def_name, def_mutex, def_acquire, def_release, 
 use Rattle.acpi_term.specs.Tree.{def_var_package, def_if, def_while, def_else, op, Terms, end, term, one}
 use Rattle.acpi_term.specs.Tree.{def_external, def_leveled_method, def_processor, def_thermal_zone, def_roomy_package}
 use Rattle.acpi_term.specs.Tree.{def_index_field, def_bank_field}
-use Rattle.acpi_term.specs.Tree.{def_fatal, match_test, unread}
+use Rattle.acpi_term.specs.Tree.{def_fatal, match_test, def_timeout, unread}
 use Rattle.acpi_term.specs.declared.term.TermEntry.{TermEntry}
 use Rattle.acpi_term.specs.declared.term.TermEntry.TheVariants.{Named, Reserved, AccessAs, ExtendedAccessAs}
 use Rattle.acpi_term.specs.declared.term.TermEntry.TheVariants.{Connection, ConnectionBuffer}
@@ -73,6 +73,7 @@ view_step (Term-F.BankField width access lock update names value entries) = (
 )
 view_step (Term-F.Fatal kind code argument) = (def_fatal kind code, 0, listed (argument.value ∷ []))
 view_step (Term-F.MatchTest code operand) = (match_test code, 0, listed (operand.value ∷ []))
+view_step (Term-F.Timeout milliseconds) = (def_timeout milliseconds, 0, end)
 view_step (Term-F.Unread error bytes) = (unread error bytes.items, 0, end)
 
 -- the head, the width and the children of a term
@@ -123,6 +124,7 @@ head_of (kinds.BankField name bank access lock update entries) =
     def_bank_field name.now bank.now access lock update (map entry_view entries.now)
 head_of (kinds.Fatal kind code) = def_fatal kind code
 head_of (kinds.MatchTest code) = match_test code
+head_of (kinds.Timeout milliseconds) = def_timeout milliseconds
 head_of (kinds.Unread error bytes) = unread error bytes.now
 
 -- a term taken apart: a head, a width, and its children in two lists

@@ -59,6 +59,8 @@ pub enum Kind<'a> {
     Fatal(u8, u32),
     /// How elements are compared.
     MatchTest(u8),
+    /// Milliseconds.
+    Timeout(u16),
     /// Why the bytes are no term, and the bytes.
     Unread(ReadError, &'a [u8]),
 }
@@ -248,6 +250,7 @@ pub fn parts_of(term: &Term) -> Parts<'_>
             from_ref(operand),
             &[],
         ),
+        Term::Timeout(milliseconds) => apart(Kind::Timeout(*milliseconds), 0, &[], &[]),
         Term::Unread { error, bytes } => apart(Kind::Unread(*error, bytes), 0, &[], &[]),
     }
 }
@@ -293,6 +296,6 @@ pub fn frame_code(kind: Kind<'_>) -> Option<&'static [u8]>
         Kind::Number(_) | Kind::Ones | Kind::Text(_) | Kind::Local(_) | Kind::Arg(_) => None,
         Kind::Call(_) | Kind::OpRegion(..) | Kind::Name(_) | Kind::Mutex(..) => None,
         Kind::Acquire(..) | Kind::Release(_) | Kind::Op(_) | Kind::External(..) => None,
-        Kind::Fatal(..) | Kind::MatchTest(_) | Kind::Unread(..) => None,
+        Kind::Fatal(..) | Kind::MatchTest(_) | Kind::Timeout(_) | Kind::Unread(..) => None,
     }
 }

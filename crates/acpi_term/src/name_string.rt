@@ -5,7 +5,8 @@ ghost use Rattle.std.specs.Cmp.Lexicographic.{pointwise};
 ghost use Rattle.std.specs.Bool.{nat_eq};
 ghost use Rattle.acpi_term.specs.Held.{held, Holds};
 ghost use Rattle.acpi_term.specs.Name.{IsNameString, without_parents};
-ghost use Rattle.acpi_term.specs.PathText.{parts, are_standard, path_spelling, is_name_text, are_segments, lead, name_of_segments};
+ghost use Rattle.acpi_term.specs.PathText.{parts, are_standard, path_spelling, is_name_text, are_segments};
+ghost use Rattle.acpi_term.specs.PathText.{lead, name_of_segments};
 ghost use Rattle.acpi_term.specs.Arity.{is_stated, are_arities, arity, arity_above, arity_in, with_new};
 ghost use Rattle.acpi_term.specs.ArityIndex.{Indexes, IsIndexed};
 ghost use Rattle.acpi_term.specs.Spelling.{arguments};
@@ -289,8 +290,10 @@ pub fn arguments(language: Language, arities: &Arities, mode: Mode, name: &[u8])
     ensures { result ≡ arguments (arity_in language arities.now) mode name.now }
 {
     match mode {
-        Mode::Term | Mode::Count | Mode::Searched => arities.count_in(language, name),
-        Mode::Element | Mode::FirstTest | Mode::SecondTest => 0,
+        Mode::Term | Mode::Count | Mode::Searched | Mode::Acquired | Mode::Released => {
+            arities.count_in(language, name)
+        }
+        Mode::Element | Mode::FirstTest | Mode::SecondTest | Mode::Timeout => 0,
     }
 }
 

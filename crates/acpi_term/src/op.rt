@@ -77,6 +77,10 @@ pub enum Op {
     Debug,
     Timer,
     DataRegion,
+    /// Acquire of an object that isn't a name. That of a name is `Term::Acquire`.
+    Acquire,
+    /// Release of an object that isn't a name. That of a name is `Term::Release`.
+    Release,
 }
 
 /// Every operator: the byte of its opcode, or the one after 5B (ACPI 6.5, 20.3), the number of its operands with the target
@@ -153,6 +157,8 @@ macro_rules! operators {
             Debug 0x31 0 Standard Term "debug"
             Timer 0x33 0 Standard Term "timer"
             DataRegion 0x88 4 Standard Term "dataregion"
+            Acquire 0x23 2 Standard Acquired "acquire"
+            Release 0x27 1 Standard Released "release"
         }
     };
 }

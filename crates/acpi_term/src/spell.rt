@@ -159,6 +159,7 @@ fn own_bytes(alloc: Global, kind: Kind<'_>, width: u8, count: usize) -> R<Vec<u8
         }
         Kind::Fatal(kind, code) => joined(alloc, &[0x5b, 0x32], &[kind], &code.to_le_bytes()),
         Kind::MatchTest(code) => joined(alloc, &[code], &[], &[]),
+        Kind::Timeout(milliseconds) => joined(alloc, &milliseconds.to_le_bytes(), &[], &[]),
         Kind::Unread(_, bytes) => joined(alloc, bytes, &[], &[]),
     }
 }

@@ -209,6 +209,8 @@ pub enum Term {
         code: u8,
         operand: Box<Term>,
     },
+    /// The timeout of an Acquire of an object that isn't a name, in milliseconds.
+    Timeout(u16),
     /// Bytes that are no term: those from a term that can't be read up to the end of the list that it is in. Only a reader that
     /// goes on after faults makes it, and no bytes spell it. The error is that of reading the term.
     Unread {

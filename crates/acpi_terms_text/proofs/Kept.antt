@@ -5,7 +5,7 @@ use Rattle.std.specs.Int.{w32, swap_bytes}
 use Rattle.std.proofs.lemmas.Bool.{eqb-true, and_parts}
 use Rattle.std.proofs.lemmas.Bool.Decides.{nat_tests}
 use Rattle.acpi_term.specs.declared.mode.Mode.TheVariants.{Term}
-use Rattle.acpi_term.specs.Tree.{Head, number, ones, string, local, arg, call, def_scope, def_device, def_method, def_power_res, def_field, def_op_region, def_name, def_mutex, def_acquire, def_release, def_buffer, def_package, def_var_package, def_if, def_while, def_else, op, def_external, def_leveled_method, def_processor, def_thermal_zone, def_roomy_package, def_index_field, def_bank_field, def_fatal, match_test, unread, Terms, end, term}
+use Rattle.acpi_term.specs.Tree.{Head, number, ones, string, local, arg, call, def_scope, def_device, def_method, def_power_res, def_field, def_op_region, def_name, def_mutex, def_acquire, def_release, def_buffer, def_package, def_var_package, def_if, def_while, def_else, op, def_external, def_leveled_method, def_processor, def_thermal_zone, def_roomy_package, def_index_field, def_bank_field, def_fatal, match_test, def_timeout, unread, Terms, end, term}
 use Rattle.acpi_read.specs.Lines.{hex_bytes, lines}
 use Rattle.acpi_terms_text.specs.Eisa.{upper_digit, upper_byte, is_id, id_text, eisa_text}
 use Rattle.acpi_terms_text.specs.Uuid.{uuid_text}
@@ -144,6 +144,7 @@ note_line ids (def_index_field index name access lock update entries) w c = tt
 note_line ids (def_bank_field name bank access lock update entries) w c = tt
 note_line ids (def_fatal kind code) w c = tt
 note_line ids (match_test k) w c = tt
+note_line ids (def_timeout t) w c = tt
 note_line ids (unread error bytes) w c = tt
 note_line ids (op o) w c = tt
 
@@ -192,6 +193,7 @@ entries_lines (def_index_field index name access lock update entries) = no_lines
 entries_lines (def_bank_field name bank access lock update entries) = no_lines (length entries)
 entries_lines (def_fatal kind code) = tt
 entries_lines (match_test k) = tt
+entries_lines (def_timeout t) = tt
 entries_lines (unread error bytes) = tt
 entries_lines (op o) = tt
 

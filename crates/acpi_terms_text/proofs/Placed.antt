@@ -18,7 +18,7 @@ use Rattle.acpi_term.specs.declared.language.Language.TheVariants.{Standard}
 use Rattle.acpi_term.specs.Operator.{word}
 use Rattle.acpi_term.specs.Row.{entry_width}
 use Rattle.acpi_term.specs.Spelling.{IsStandard, EntryIsStandard, AreStandardEntries, AreLegal, inner, next, spelling}
-use Rattle.acpi_term.specs.Tree.{Entry, named, reserved, access_as, extended_access_as, connection, connection_buffer, Head, number, ones, string, local, arg, call, def_scope, def_device, def_method, def_power_res, def_field, def_op_region, def_name, def_mutex, def_acquire, def_release, def_buffer, def_package, def_var_package, def_if, def_while, def_else, op, def_external, def_leveled_method, def_processor, def_thermal_zone, def_roomy_package, def_index_field, def_bank_field, def_fatal, match_test, unread, Terms, end, term, count}
+use Rattle.acpi_term.specs.Tree.{Entry, named, reserved, access_as, extended_access_as, connection, connection_buffer, Head, number, ones, string, local, arg, call, def_scope, def_device, def_method, def_power_res, def_field, def_op_region, def_name, def_mutex, def_acquire, def_release, def_buffer, def_package, def_var_package, def_if, def_while, def_else, op, def_external, def_leveled_method, def_processor, def_thermal_zone, def_roomy_package, def_index_field, def_bank_field, def_fatal, match_test, def_timeout, unread, Terms, end, term, count}
 use Rattle.acpi_base.specs.Digit.{hex_byte}
 use Rattle.acpi_base.specs.Number.{number_width}
 use Rattle.acpi_read.specs.Lines.{quoted_byte, quoted_bytes, dotted_segments, tail, segments_of, name_text, width_suffix, is_chosen, is_entry_chosen, data_text, head_text, indent, line, access_words, entry_text, entry_line, entry_lines, own_lines, term_suffix, lines}
@@ -214,6 +214,8 @@ word_line op.Revision = refl
 word_line op.Debug = refl
 word_line op.Timer = refl
 word_line op.DataRegion = refl
+word_line op.Acquire = refl
+word_line op.Release = refl
 
 head_line : (l : Language) (h : Head) (n : ℕ) → IsStandard l h → IsOneLine (head_text h n)
 head_line l (number v) n std = and_decimal (codes "number ") v refl
@@ -262,6 +264,7 @@ head_line l (def_bank_field name bank access lock update entries) n std =
     one_and (one ++ two) three (one_and one two first second) third
 head_line l (def_fatal kind code) n std = then_decimal (codes "fatal type " ++ decimal kind) (codes " code ") code (and_decimal (codes "fatal type ") kind refl) refl
 head_line l (match_test k) n std = and_decimal (codes "test ") k refl
+head_line l (def_timeout t) n std = and_decimal (codes "timeout ") t refl
 head_line l (unread error bytes) n std = absurd std
 
 indent_line : (d : ℕ) → IsOneLine (indent d)
@@ -354,6 +357,7 @@ own_placed l d (def_index_field index name access lock update entries) rest ns s
 own_placed l d (def_bank_field name bank access lock update entries) rest ns std = entries_placed l d entries rest ns std.6
 own_placed l d (def_fatal kind code) rest ns std = refl
 own_placed l d (match_test k) rest ns std = refl
+own_placed l d (def_timeout t) rest ns std = refl
 own_placed l d (unread error bytes) rest ns std = refl
 
 module _ (g : Grammar) where

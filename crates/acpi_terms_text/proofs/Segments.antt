@@ -4,7 +4,7 @@ use Rattle.std.proofs.lemmas.List.{append-nil}
 use Rattle.std.specs.Str.{bytes_eq}
 use Rattle.acpi_term.specs.Arity.{arity, with_all}
 use Rattle.acpi_term.specs.Name.{is_segment, no_more, one_more, single as one_segment, relative, IsNameString, as_written}
-use Rattle.acpi_term.specs.Tree.{Entry, named, reserved, access_as, extended_access_as, connection, connection_buffer, Head, number, ones, string, local, arg, call, def_scope, def_device, def_method, def_power_res, def_field, def_op_region, def_name, def_mutex, def_acquire, def_release, def_buffer, def_package, def_var_package, def_if, def_while, def_else, op, def_external, def_leveled_method, def_processor, def_thermal_zone, def_roomy_package, def_index_field, def_bank_field, def_fatal, match_test, unread, Terms, end, term}
+use Rattle.acpi_term.specs.Tree.{Entry, named, reserved, access_as, extended_access_as, connection, connection_buffer, Head, number, ones, string, local, arg, call, def_scope, def_device, def_method, def_power_res, def_field, def_op_region, def_name, def_mutex, def_acquire, def_release, def_buffer, def_package, def_var_package, def_if, def_while, def_else, op, def_external, def_leveled_method, def_processor, def_thermal_zone, def_roomy_package, def_index_field, def_bank_field, def_fatal, match_test, def_timeout, unread, Terms, end, term}
 use Rattle.acpi_term.specs.View.{view, views, single, IsApart}
 use Rattle.acpi_term.specs.declared.term.Term.{Term}
 use Rattle.acpi_terms_text.specs.declared.objects.Kept.{Kept}
@@ -194,6 +194,7 @@ own_made scope (def_index_field index name access lock update entries) c = units
 own_made scope (def_bank_field name bank access lock update entries) c = units_none scope entries
 own_made scope (def_fatal kind code) c = refl
 own_made scope (match_test k) c = refl
+own_made scope (def_timeout t) c = refl
 own_made scope (unread error bytes) c = refl
 
 -- the segments of the objects of terms

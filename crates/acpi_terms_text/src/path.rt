@@ -24,8 +24,9 @@ pub fn joined(alloc: Global, scope: &[u8], segments: &[u8]) -> Result<Vec<u8>, A
     Ok(path)
 }
 
-fn of_bytes(alloc: Global, scope: &[u8], name: &[u8]) -> Result<Vec<u8>, AllocError>
-    ensures { IfOk result (λ path. path.items ≡ path_in scope.now name.now) }
+// Returns the path of a name in a scope, in two parts.
+fn parts_in<'a>(scope: &'a [u8], name: &'a [u8]) -> (&'a [u8], &'a [u8])
+    ensures { result.0.now ++ result.1.now ≡ path_in scope.now name.now }
 {
     let mut around = scope;
     let mut rest = name;
@@ -34,9 +35,9 @@ fn of_bytes(alloc: Global, scope: &[u8], name: &[u8]) -> Result<Vec<u8>, AllocEr
         rest = more;
     }
     match rest {
-        [] => Vec::from_slice(alloc, around),
-        [0x5c, more @ ..] => Vec::from_slice(alloc, segments_of(more)),
-        _ => joined(alloc, around, segments_of(rest)),
+        [] => (around, &[]),
+        [0x5c, more @ ..] => (&[], segments_of(more)),
+        _ => (around, segments_of(rest)),
     }
 }
 
@@ -44,7 +45,8 @@ fn of_bytes(alloc: Global, scope: &[u8], name: &[u8]) -> Result<Vec<u8>, AllocEr
 pub fn path_in(alloc: Global, scope: &[u8], name: &NameString) -> Result<Vec<u8>, AllocError>
     ensures { IfOk result (λ path. path.items ≡ path_in scope.now name.now) }
 {
-    of_bytes(alloc, scope, name.as_bytes())
+    let (front, rest) = parts_in(scope, name.as_bytes());
+    joined(alloc, front, rest)
 }
 
 /// Returns whether a path is this one, which is given in two parts.
@@ -61,17 +63,8 @@ pub fn is_joined(front: &[u8], rest: &[u8], path: &[u8]) -> bool
 pub(crate) fn is_path_in(scope: &[u8], name: &[u8], path: &[u8]) -> bool
     ensures { result ≡ bytes_eq path.now (path_in scope.now name.now) }
 {
-    let mut around = scope;
-    let mut rest = name;
-    'parents: while let [0x5e, more @ ..] = rest {
-        around = parent(around);
-        rest = more;
-    }
-    match rest {
-        [] => path == around,
-        [0x5c, more @ ..] => path == segments_of(more),
-        _ => is_joined(around, segments_of(rest), path),
-    }
+    let (front, rest) = parts_in(scope, name);
+    is_joined(front, rest, path)
 }
 
 /// Returns the last segment of a name.

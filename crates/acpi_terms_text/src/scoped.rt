@@ -249,8 +249,12 @@ fn may_be_other(own: &Arities, objects: &[Object], scope: &[u8], kind: Kind<'_>)
 pub(crate) enum Sought<'a> {
     // This name.
     Name(&'a [u8]),
-    // A name that is relative to this scope, and that of one of these objects, which has another number than in this list.
-    Path(&'a Arities, &'a [Object], &'a [u8]),
+    // A name in a scope that is the path of one of these objects, which takes another number of arguments than in this list.
+    Path {
+        own: &'a Arities,
+        objects: &'a [Object],
+        scope: &'a [u8],
+    },
     // Bytes that aren't read.
     Unread,
 }
@@ -271,7 +275,11 @@ fn is_sought(sought: Sought<'_>, kind: Kind<'_>) -> bool
 {
     match sought {
         Sought::Name(name) => may_name(name, kind),
-        Sought::Path(own, objects, scope) => may_be_other(own, objects, scope, kind),
+        Sought::Path {
+            own,
+            objects,
+            scope,
+        } => may_be_other(own, objects, scope, kind),
         Sought::Unread => is_unread(kind),
     }
 }
@@ -349,8 +357,12 @@ fn are_other(numbers: &Numbers<'_>, scope: &[u8], body: &[Term]) -> bool
     if numbers.objects.is_empty() {
         return false;
     }
-    names_near(scope.len() / 4, scope, body, numbers.differing)
-        || any(Sought::Path(numbers.own, numbers.objects, scope), body)
+    let other = Sought::Path {
+        own: numbers.own,
+        objects: numbers.objects,
+        scope,
+    };
+    names_near(scope.len() / 4, scope, body, numbers.differing) || any(other, body)
 }
 
 // ---- the terms of a method's body
@@ -464,7 +476,8 @@ fn scoped_box(
     mut term: Box<Term>,
 ) -> Result<Box<Term>, AllocError>
     ensures { IfOk result (λ new. AreScoped numbers.now.stated.now (map callee_by numbers.now.objects.now)
-        (map callee_by numbers.now.differing.now) numbers.now.own.now scope.now (single (view term.value)) (single (view new.value))) }
+        (map callee_by numbers.now.differing.now) numbers.now.own.now scope.now (single (view term.value))
+        (single (view new.value))) }
 {
     let old = replace(&mut *term, Term::Ones);
     *term = scoped_term(alloc, numbers, scope, old)?;
@@ -609,8 +622,8 @@ fn scoped_term(
 /// or in one around it. Other names find the object of this path from the scope. Stated numbers come first, and a name that finds
 /// no object is read as before. The objects of further blocks count as those of the block itself.
 ///
-/// A body is read again if it has a name whose number in its scope is another than in `own`, or bytes that aren't read. It stays as
-/// it is if its bytes spell no terms with the numbers of its scope.
+/// A body is read again if it has a name whose number in its scope is another than in `own`, or bytes that aren't read. It stays
+/// as it is if its bytes spell no terms with the numbers of its scope.
 pub fn in_scopes(
     alloc: Global,
     stated: &Arities,

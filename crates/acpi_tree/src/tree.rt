@@ -6,7 +6,8 @@ ghost use Rattle.std.specs.List.{flat_map};
 ghost use Rattle.acpi_tree.specs.Tree.{line, has_full, walk, visit, levels, visit_new, places_from, roots_from, tree_lines};
 ghost use Rattle.acpi_rules.specs.Item.{item_by};
 ghost use Rattle.acpi_tree.specs.Spaces.{spaces};
-ghost use Rattle.acpi_tree.specs.Tree.{size_text, type_text, node_text, shown, names_of, line_of, line_text, lines_text, tree_text};
+ghost use Rattle.acpi_tree.specs.Tree.{size_text, type_text, node_text, shown, names_of};
+ghost use Rattle.acpi_tree.specs.Tree.{line_of, line_text, lines_text, tree_text};
 
 use crate::graph::{Edge, Node, edges_of, is_target, nodes_of, targets};
 use crate::named::{named_in, push_names};

@@ -1,5 +1,5 @@
 -- Memory is an error of any bytes.
-use Rattle.std.proofs.Common.{◌≡◌, ◌∙◌, List, ℕ, Result, Ok, Err, IfErr, refl, sym}
+use Rattle.std.proofs.Common.{◌≡◌, ◌∙◌, List, ℕ, refl, sym}
 use Rattle.acpi_forms.specs.Kind.{kind_of}
 use Rattle.acpi_forms.specs.Words.{words_by}
 use Rattle.acpi_make.specs.declared.file_kind.FileKind.{FileKind}
@@ -17,8 +17,6 @@ same_words Cdat = refl
 same_words S3pt = refl
 same_words Table = refl
 
-pub memory_is_fault : {T : Type 0} (bytes : List ℕ) (result : Result T Fault) → IfErr result (IsFaultOf Table Memory)
-    → IfErr result (IsTextFault bytes)
-memory_is_fault bytes (Ok text) is = tt
-memory_is_fault bytes (Err fault) is =
+pub memory_is_fault : (fault : Fault) → IsFaultOf Table Memory fault → (bytes : List ℕ) → IsTextFault bytes fault
+memory_is_fault fault is bytes =
     record { error = Memory; says = (is.0, is.1 ∙ sym (same_words (kind_of bytes))); cause = λ other. absurd (other refl) }

@@ -1,16 +1,9 @@
 -- The fields in which the tables in two files differ.
 use Rattle.std.specs.Prelude.{◌≡◌, ◌≢◌, ◌⊎◌, ℕ, List, [], ◌∷◌, ◌++◌, map, Option, Some, None, codes}
 use Rattle.std.specs.Io.KnownBytes.{Keeps, Appends}
-use Rattle.acpi_base.specs.Bytes.{field_at}
-use Rattle.acpi_base.specs.FurtherWalk.{table_walk_of}
-use Rattle.acpi_base.specs.declared.walk.Walk.{Walk}
+use Rattle.acpi_forms.specs.File.{file_names, file_walk}
 use Rattle.acpi_forms.specs.Kind.{kind_of, title_of}
-use Rattle.acpi_forms.specs.FurtherNames.{cdat_names, s3pt_names}
-use Rattle.acpi_forms.specs.Layout.{names_in}
-use Rattle.acpi_forms.specs.Named.{Named, IsNamed, rsdp_names, facs_names}
-use Rattle.acpi_forms.specs.Walks.{cdat_walk, s3pt_walk}
-use Rattle.acpi_make.specs.declared.file_kind.FileKind.{FileKind}
-use Rattle.acpi_make.specs.declared.file_kind.FileKind.TheVariants.{Rsdp, Facs, Cdat, S3pt, Table}
+use Rattle.acpi_forms.specs.Named.{IsNamed}
 use Rattle.acpi_read.specs.Report.{printable}
 use Rattle.acpi_rules.specs.Difference.{AreLines}
 use Rattle.acpi_rules.specs.Field.{Field, table_fields}
@@ -22,22 +15,11 @@ use Rattle.acpitool_program.specs.declared.fault.Fault.{Fault}
 
 -- ---- the fields of one table
 
--- the fields of bytes by a form that has these names
-pub record AreByForm (names : Named) (walk : Option Walk) (bytes : List ℕ) (fields : List Field) : Type 0 where
+-- the fields of bytes by their form
+pub record AreFields (bytes : List ℕ) (fields : List Field) : Type 0 where
   pub form : TableForm
-  pub is_named : IsNamed form names
-  pub are : fields ≡ table_fields form walk bytes
-
--- the fields of bytes of a kind
-abbrev pub AreFieldsBy : FileKind → List ℕ → List Field → Type 0
-AreFieldsBy Rsdp bytes fields = AreByForm rsdp_names None bytes fields
-AreFieldsBy Facs bytes fields = AreByForm facs_names None bytes fields
-AreFieldsBy Cdat bytes fields = AreByForm cdat_names (Some cdat_walk) bytes fields
-AreFieldsBy S3pt bytes fields = AreByForm s3pt_names (Some s3pt_walk) bytes fields
-AreFieldsBy Table bytes fields = AreByForm (names_in (field_at 0 4 bytes) bytes) (table_walk_of (field_at 0 4 bytes)) bytes fields
-
-abbrev pub AreFields : List ℕ → List Field → Type 0
-AreFields bytes fields = AreFieldsBy (kind_of bytes) bytes fields
+  pub is_named : IsNamed form (file_names bytes)
+  pub are : fields ≡ table_fields form (file_walk bytes) bytes
 
 -- ---- two tables
 

@@ -103,8 +103,8 @@ abbrev pub IsGatheredFor : Job → List ℕ → Type 0
 IsGatheredFor gathers bytes = IsKind (kind_of bytes) bytes
 IsGatheredFor job bytes = ⊥
 
--- The text and the lines after it are those that `show` prints of the bytes with its option, and the fault is that of the terms or
--- of the structures. The name stands before them if it isn't the only word.
+-- The text and the lines after it are those that `show` prints of the bytes with its option, and the fault is that of the terms
+-- or of the structures. The name stands before them if it isn't the only word.
 abbrev pub IsTextFor : Job → Bool → List ℕ → List ℕ → List ℕ → List ℕ → Option Fault → Type 0
 IsTextFor (shows style files stated further) more name bytes text after fault =
     (more ≡ not (is_alone files name))
@@ -123,8 +123,8 @@ abbrev pub IsObjectFor : Job → List ℕ → List ℕ → List ℕ → Type 0
 IsObjectFor lists name bytes object = IsObject name bytes object
 IsObjectFor job name bytes object = ⊥
 
--- A table is gathered, shown, checked or listed, as it was asked for. The fault is one of the structures or of the bytes, or the first of
--- a dump.
+-- A table is gathered, shown, checked or listed, as it was asked for. The fault is one of the structures or of the bytes, or the
+-- first of a dump.
 abbrev pub IsTrueOutcome : Job → Outcome → Type 0
 IsTrueOutcome job (gathered name bytes) = IsGatheredFor job bytes
 IsTrueOutcome job (shown more name bytes text after fault) = IsTextFor job more name bytes text after fault

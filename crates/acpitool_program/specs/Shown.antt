@@ -28,8 +28,8 @@ pub record IsHeader (bare : Bool) (bytes text : List ℕ) : Type 0 where
   pub of : IsTextOf (names_in (field_at 0 4 bytes) bytes) None (take 36 bytes) fields
   pub is : text ≡ comment (if bare then without_offsets [] fields else fields)
 
--- The header is shown, and the terms are ASL. Names take the stated numbers of arguments, or else those of the objects of the block
--- and of further blocks.
+-- The header is shown, and the terms are ASL. Names take the stated numbers of arguments, or else those of the objects of the
+-- block and of further blocks.
 pub record IsAsl (bare : Bool) (stated : List (List ℕ × ℕ)) (further : List Callee) (bytes text after : List ℕ) : Type 0 where
   pub header : IsHeader bare bytes text
   pub asl : IsBlockText Asl stated further bytes after
@@ -97,8 +97,8 @@ AddsBlocks stated [] old new = new ≡ old
 AddsBlocks stated (table ∷ tables) old new =
     (between : List Callee) × AddsBlock (has_terms table.1) stated table.1 old between × AddsBlocks stated tables between new
 
--- The objects that each block may name besides its own: those of all blocks, if there are several tables and they are those of one
--- machine.
+-- The objects that each block may name besides its own: those of all blocks, if there are several tables and they are those of
+-- one machine.
 abbrev pub AreFurtherBy : Bool → List (List ℕ × ℕ) → List (List ℕ × List ℕ) → List Callee → Type 0
 AreFurtherBy true stated tables further = AddsBlocks stated tables [] further
 AreFurtherBy false stated tables further = further ≡ []

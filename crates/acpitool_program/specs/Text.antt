@@ -1,7 +1,8 @@
 -- The text of a file's bytes.
 use Rattle.std.specs.Prelude.{◌≡◌, ◌≢◌, ℕ, Bool, true, false, List, []}
 use Rattle.acpi_base.specs.Table.{IsTrueTable}
-use Rattle.acpi_forms.specs.Kind.{kind_of, IsTextBy}
+use Rattle.acpi_forms.specs.File.{IsFileText}
+use Rattle.acpi_forms.specs.Kind.{kind_of}
 use Rattle.acpi_make.specs.declared.file_kind.FileKind.{FileKind}
 use Rattle.acpi_make.specs.declared.file_kind.FileKind.TheVariants.{Rsdp, Facs, Cdat, S3pt, Table}
 use Rattle.acpi_term.specs.declared.read_error.ReadError.{ReadError}
@@ -22,7 +23,7 @@ IsKind Table bytes = IsTrueTable bytes
 -- bytes are what their signature says, and a text shows them
 pub record IsText (bytes text : List ℕ) : Type 0 where
   pub kind : IsKind (kind_of bytes) bytes
-  pub is : IsTextBy (kind_of bytes) bytes text
+  pub is : IsFileText bytes text
 
 -- the text, with or without the offsets of its lines
 abbrev pub IsTextAs : Bool → List ℕ → List ℕ → Type 0

@@ -1,16 +1,12 @@
 //! The fields in which the tables in two files differ.
 
-ghost use Rattle.std.specs.Prelude.{◌≡◌, ◌≤◌, ℕ, List, [], ◌∷◌, ◌++◌, codes, length, map, Some, None, IfOk, OnOk, string_bytes};
+ghost use Rattle.std.specs.Prelude.{◌≡◌, ◌≤◌, ℕ, List, [], ◌∷◌, ◌++◌, codes, map, IfOk, OnOk, string_bytes};
 ghost use Rattle.std.specs.Io.KnownBytes.{Appends};
-ghost use Rattle.acpi_base.specs.Bytes.{field_at};
-ghost use Rattle.acpi_base.specs.FurtherWalk.{table_walk_of};
 ghost use Rattle.acpi_forms.specs.Kind.{kind_of};
-ghost use Rattle.acpi_forms.specs.FurtherNames.{cdat_names, s3pt_names};
-ghost use Rattle.acpi_forms.specs.Layout.{names_in};
-ghost use Rattle.acpi_forms.specs.Named.{Named, IsNamed, rsdp_names, facs_names};
-ghost use Rattle.acpi_forms.specs.Walks.{cdat_walk, s3pt_walk};
+ghost use Rattle.acpi_forms.specs.File.{file_names};
+ghost use Rattle.acpi_forms.specs.Named.{IsNamed};
 ghost use Rattle.acpi_rules.specs.Field.{seen};
-ghost use Rattle.acpitool_program.specs.Comparing.{AreByForm, AreFields, signatures_line, or_nameless, AreDifferences};
+ghost use Rattle.acpitool_program.specs.Comparing.{AreFields, signatures_line, or_nameless, AreDifferences};
 ghost use Rattle.acpitool_program.specs.Comparing.{IsComparison, comparison_status, ComparesBytes};
 ghost use Rattle.acpitool_program.specs.Comparing.{ComparesWith, Compares};
 ghost use Rattle.acpitool_program.specs.Fault.{line_of};
@@ -21,15 +17,8 @@ use crate::fault::Fault;
 use crate::files::read_word;
 use crate::outcome::tell_unread;
 use crate::text::check_kind;
-use acpi_base::further_walk::table_walk_of;
-use acpi_base::walk::Walk;
-use acpi_forms::form::{facs_form, rsdp_form};
-use acpi_forms::further::cdat::{cdat_form, cdat_walk};
-use acpi_forms::further::s3pt::{s3pt_form, s3pt_walk};
-use acpi_forms::kind::{kind_of, title_of};
-use acpi_forms::layout::form_in;
-use acpi_make::file_kind::FileKind;
-use acpi_read::bytes::dword_at;
+use acpi_forms::file::{file_form, file_walk};
+use acpi_forms::kind::title_of;
 use acpi_read::report::push_shown;
 use acpi_rules::difference::differences_of;
 use acpi_rules::field::Field;
@@ -40,86 +29,16 @@ use std::io;
 use std::io::{Input, Write};
 use std::rt::Files;
 
-// Returns the fields of bytes by a form.
+// Returns the fields of a table, a pointer or a control structure, by their form.
 fn by_form<'a>(
     alloc: Global,
     form: &TableForm,
-    walk: Option<Walk>,
     bytes: &'a [u8],
 ) -> Result<Vec<Field<'a>>, AllocError>
-    ensures { (names : Named) → IsNamed form.now names
-        → IfOk result (λ fields. AreByForm names walk bytes.now (map seen fields.items)) }
+    ensures { IsNamed form.now (file_names bytes.now) → IfOk result (λ fields. AreFields bytes.now (map seen fields.items)) }
 {
-    let fields = fields_of(alloc, form, walk, bytes)?;
+    let fields = fields_of(alloc, form, file_walk(bytes), bytes)?;
     Ok(fields)
-}
-
-// Returns the fields of a pointer.
-fn pointer_fields<'a>(alloc: Global, bytes: &'a [u8]) -> Result<Vec<Field<'a>>, AllocError>
-    ensures { IfOk result (λ fields. AreByForm rsdp_names None bytes.now (map seen fields.items)) }
-{
-    by_form(alloc, &rsdp_form(), None, bytes)
-}
-
-// Returns the fields of a control structure.
-fn control_fields<'a>(alloc: Global, bytes: &'a [u8]) -> Result<Vec<Field<'a>>, AllocError>
-    ensures { IfOk result (λ fields. AreByForm facs_names None bytes.now (map seen fields.items)) }
-{
-    by_form(alloc, &facs_form(), None, bytes)
-}
-
-// Returns the fields of a table of coherent devices.
-fn coherent_fields<'a>(alloc: Global, bytes: &'a [u8]) -> Result<Vec<Field<'a>>, AllocError>
-    ensures { IfOk result (λ fields. AreByForm cdat_names (Some cdat_walk) bytes.now (map seen fields.items)) }
-{
-    by_form(alloc, &cdat_form(), Some(cdat_walk()), bytes)
-}
-
-// Returns the fields of a table of S3 performance.
-fn performance_fields<'a>(alloc: Global, bytes: &'a [u8]) -> Result<Vec<Field<'a>>, AllocError>
-    ensures { IfOk result (λ fields. AreByForm s3pt_names (Some s3pt_walk) bytes.now (map seen fields.items)) }
-{
-    by_form(alloc, &s3pt_form(), Some(s3pt_walk()), bytes)
-}
-
-// Returns the fields of a table of a signature.
-fn signature_fields<'a>(
-    alloc: Global,
-    signature: u32,
-    bytes: &'a [u8],
-) -> Result<Vec<Field<'a>>, AllocError>
-    ensures { IfOk result (λ fields. AreByForm (names_in signature bytes.now) (table_walk_of signature)
-        bytes.now (map seen fields.items)) }
-{
-    by_form(
-        alloc,
-        &form_in(signature, bytes),
-        table_walk_of(signature),
-        bytes,
-    )
-}
-
-// Returns the fields of a table.
-fn table_fields<'a>(alloc: Global, bytes: &'a [u8]) -> Result<Vec<Field<'a>>, AllocError>
-    requires { 4 ≤ length bytes.now }
-    ensures { IfOk result (λ fields. AreByForm (names_in (field_at 0 4 bytes.now) bytes.now)
-        (table_walk_of (field_at 0 4 bytes.now)) bytes.now (map seen fields.items)) }
-{
-    signature_fields(alloc, dword_at(bytes, 0), bytes)
-}
-
-// Returns the fields of a table, a pointer or a control structure.
-fn fields_in<'a>(alloc: Global, bytes: &'a [u8]) -> Result<Vec<Field<'a>>, AllocError>
-    requires { IsKind (kind_of bytes.now) bytes.now }
-    ensures { IfOk result (λ fields. AreFields bytes.now (map seen fields.items)) }
-{
-    match kind_of(bytes) {
-        FileKind::Rsdp => pointer_fields(alloc, bytes),
-        FileKind::Facs => control_fields(alloc, bytes),
-        FileKind::Cdat => coherent_fields(alloc, bytes),
-        FileKind::S3pt => performance_fields(alloc, bytes),
-        FileKind::Table => table_fields(alloc, bytes),
-    }
 }
 
 // Returns the line of tables with different signatures.
@@ -150,8 +69,8 @@ fn differences(alloc: Global, a: &[u8], b: &[u8]) -> Result<String, AllocError>
     requires second { IsKind (kind_of b.now) b.now }
     ensures { IfOk result (λ text. AreDifferences a.now b.now (string_bytes text)) }
 {
-    let first = fields_in(alloc, a)?;
-    let second = fields_in(alloc, b)?;
+    let first = by_form(alloc, &file_form(a), a)?;
+    let second = by_form(alloc, &file_form(b), b)?;
     let lines = differences_of(alloc, &first, &second)?;
     or_nameless(alloc, lines)
 }

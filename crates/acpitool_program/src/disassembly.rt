@@ -12,6 +12,7 @@ use crate::command::{Misstated, Wrong, files_in, numbers};
 use crate::complaint::complain;
 use crate::fault::Fault;
 use crate::files::read_word;
+use crate::further::add_block;
 use crate::help::tell_wrong;
 use crate::outcome::tell_unread;
 use acpi_asl::block::{BODY, BlockText, has_terms, text_in_part, text_of_block};
@@ -19,7 +20,7 @@ use acpi_make::file_kind::FileKind;
 use acpi_read::table::Table;
 use acpi_term::name_string::Arities;
 use acpi_term::read_error::ReadError;
-use acpi_terms_text::objects::{Object, add_objects_in};
+use acpi_terms_text::objects::Object;
 use std::alloc::{AllocError, Global};
 use std::io;
 use std::io::{Input, Write};
@@ -120,8 +121,8 @@ fn disassemble_word<R: Files + Input, O: Write, E: Write>(
     }
 }
 
-// Adds the methods of a definition block and returns 0, or prints what is wrong with the bytes and returns 1.
-fn add_block<E: Write>(
+// Adds the objects of a definition block and returns 0, or prints what is wrong with the bytes and returns 1.
+fn add_or_complain<E: Write>(
     alloc: Global,
     stated: &Arities,
     name: &str,
@@ -136,12 +137,11 @@ fn add_block<E: Write>(
         complain(alloc, name, &fault, err)?;
         return Ok(1);
     }
-    let (_, body) = bytes.split_at(BODY);
-    add_objects_in(alloc, body, stated, all)?;
+    add_block(alloc, stated, bytes, all)?;
     Ok(0)
 }
 
-// Adds the methods of the definition block in a file, or on standard input.
+// Adds the objects of the definition block in a file, or on standard input.
 fn add_file<R: Files + Input, E: Write>(
     rt: &R,
     alloc: Global,
@@ -154,12 +154,12 @@ fn add_file<R: Files + Input, E: Write>(
         (E.contents err.old) (E.contents err.new) status) }
 {
     match read_word(rt, alloc, name) {
-        Ok(bytes) => add_block(alloc, stated, name, &bytes, all, err),
+        Ok(bytes) => add_or_complain(alloc, stated, name, &bytes, all, err),
         Err(error) => tell_unread(alloc, name, &error, err),
     }
 }
 
-// Adds the methods of the definition block in each file, up to the first that has none, and returns 0 or the status of that file.
+// Adds the objects of the definition block in each file, up to the first that has none, and returns 0 or the status of that file.
 #[cycle(files)]
 fn add_files<R: Files + Input, E: Write>(
     rt: &R,

@@ -1,12 +1,14 @@
 //! What is wrong with the bytes of a file, in words.
 
-ghost use Rattle.std.specs.Prelude.{◌≡◌, Some, ◌+◌, ◌<◌, ◌^◌, IfSome};
+ghost use Rattle.std.specs.Prelude.{◌≡◌, ℕ, List, Some, ◌+◌, ◌<◌, ◌^◌, IfSome};
 ghost use Rattle.acpi_term.specs.ReadError.{offset_of};
 ghost use Rattle.acpitool_program.specs.Fault.{line_of, IsFaultOf, IsFaultAfter};
+ghost use Rattle.acpitool_program.specs.Text.{IsTextFault};
 
 use acpi_forms::words::{words, words_by};
 use acpi_make::file_kind::FileKind;
 use acpi_term::read_error::ReadError;
+use std::alloc::AllocError;
 use std::fmt;
 
 /// What is wrong with bytes. Its text is a line for standard error, without the name of the file.
@@ -39,6 +41,16 @@ impl Fault {
             place,
             words: words(error),
         }
+    }
+}
+
+/// Memory may run out with any bytes.
+impl From<AllocError> for Fault {
+    ghost from_gives = { λ _ fault. (bytes : List ℕ) → IsTextFault bytes fault };
+
+    #[tactic(auto, using(crate::proofs::Texts::memory_is_fault))]
+    fn from(_error: AllocError) -> Fault {
+        Fault::of(FileKind::Table, ReadError::Memory)
     }
 }
 

@@ -28,8 +28,8 @@ fn of_one_machine(tables: &[Kept]) -> bool
     true
 }
 
-// Adds the objects of a table, if it is a definition block.
-fn add_block(
+/// Adds the objects of a table, if it is a definition block.
+pub fn add_block(
     alloc: Global,
     stated: &Arities,
     bytes: &[u8],

@@ -5,8 +5,8 @@ ghost use Rattle.acpi_forms.specs.Kind.{kind_of};
 ghost use Rattle.acpitool_program.specs.Structures.{broken_at, HasBroken, HasOrBroken, HasFault, IsSoundOr};
 ghost use Rattle.acpitool_program.specs.Text.{IsKind};
 
-use crate::check::{check_coherent, check_control, check_performance, check_pointer};
 use crate::fault::Fault;
+use crate::text::check_kind;
 use acpi_base::walk::{Sizes, Walk};
 use acpi_forms::further::cdat::cdat_walk;
 use acpi_forms::further::s3pt::s3pt_walk;
@@ -95,26 +95,8 @@ pub fn structures_fault(alloc: Global, bytes: &[u8]) -> Result<Option<Fault>, Al
 pub fn wrong_with(alloc: Global, bytes: &[u8]) -> Result<Option<Fault>, AllocError>
     ensures { IfOk result (IsSoundOr bytes.now) }
 {
-    match kind_of(bytes) {
-        FileKind::Rsdp => match check_pointer(bytes) {
-            Ok(()) => Ok(None),
-            Err(error) => Ok(Some(Fault::of(FileKind::Rsdp, error))),
-        },
-        FileKind::Facs => match check_control(bytes) {
-            Ok(()) => Ok(None),
-            Err(error) => Ok(Some(Fault::of(FileKind::Facs, error))),
-        },
-        FileKind::Cdat => match check_coherent(bytes) {
-            Ok(()) => Ok(broken(FileKind::Cdat, cdat_walk(), bytes)),
-            Err(error) => Ok(Some(Fault::of(FileKind::Cdat, error))),
-        },
-        FileKind::S3pt => match check_performance(bytes) {
-            Ok(()) => Ok(broken(FileKind::S3pt, s3pt_walk(), bytes)),
-            Err(error) => Ok(Some(Fault::of(FileKind::S3pt, error))),
-        },
-        FileKind::Table => match Table::check(bytes) {
-            Ok(table) => table_fault(alloc, &table),
-            Err(error) => Ok(Some(Fault::of(FileKind::Table, error))),
-        },
+    match check_kind(bytes) {
+        Ok(()) => structures_fault(alloc, bytes),
+        Err(fault) => Ok(Some(fault)),
     }
 }

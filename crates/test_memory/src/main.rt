@@ -4,8 +4,8 @@
 //!
 //! These bytes are counted, in this order:
 //!
-//! - each type of `fill_lists`, `fill_others`, `fill_arm` and `fill_pc`, once for each of its `WAYS`: `empty`, after five calls of `grow` in
-//!   this way. `grow` of MADT in way 1 adds one structure in all, since a MADT has one IMSIC at most;
+//! - each type of `fill_lists`, `fill_others`, `fill_arm` and `fill_pc`, once for each of its `WAYS`: `empty`, after five calls
+//!   of `grow` in this way. `grow` of MADT in way 1 adds one structure in all, since a MADT has one IMSIC at most;
 //! - the error data entry with five objects of three bytes, and the three clones (`errors`);
 //! - each object of `part`, `aml`, `descriptors`, `operators` and `built`, once;
 //! - the image, twice (`image`);

@@ -127,6 +127,10 @@ pub enum Op {
     Debug = 0x5b31,
     Timer = 0x5b33,
     DataRegion = 0x5b88,
+    /// Of an object that isn't a name, which the timeout follows as two bytes.
+    Acquire = 0x5b23,
+    /// Of an object that isn't a name.
+    Release = 0x5b27,
 }
 
 /// A writer of AML (ACPI 6.5, 20), or of a table. Its bytes grow as far as they have to. No call returns a `Result`: the writer

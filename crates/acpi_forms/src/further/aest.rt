@@ -155,7 +155,8 @@ macro_rules! records {
     };
 }
 
-// By the size of the interface in bytes. A group has 64 records in 4K, 256 in 16K and 896 in 64K, and a bitmap has a bit for each.
+// By the size of the interface in bytes. A group has 64 records in 4K, 256 in 16K and 896 in 64K, and a bitmap has a bit for
+// each.
 const RECORDS: [Choice; 4] = [
     Choice {
         number: 80,
@@ -203,8 +204,8 @@ const INTERRUPT: [Row; 6] = [
 // ---- nodes
 
 // A node of a type, by its name and the rows of its data. The interface reaches from its offset up to that of the interrupts. A
-// node without interrupts has 0 as their offset, and its interface ends with it. The records of an interface of another size are a
-// line of bytes. In a text that is made into a table, the interrupts begin where this line ends; it is empty after records with
+// node without interrupts has 0 as their offset, and its interface ends with it. The records of an interface of another size are
+// a line of bytes. In a text that is made into a table, the interrupts begin where this line ends; it is empty after records with
 // names.
 macro_rules! node {
     ($number:literal, $name:literal, $data:ident) => {
@@ -288,8 +289,8 @@ fn further_nodes() -> &'static [StructureForm]
 
 /// Returns the form of the Arm Error Source Table (Arm DEN0085, versions 1 and 2). The records of an interface differ between the
 /// versions and the formats of a group, so they are named by the size of the interface: 48 bytes in version 1, and 80, 152 or 392
-/// bytes in version 2 where a group has 4K, 16K or 64K. Those of another size are one line of bytes. The names are from memory, and
-/// so are the layouts of 16K and 64K.
+/// bytes in version 2 where a group has 4K, 16K or 64K. Those of another size are one line of bytes. The names are from memory,
+/// and so are the layouts of 16K and 64K.
 pub fn aest_form() -> TableForm
     ensures { IsNamed result aest_names }
 {

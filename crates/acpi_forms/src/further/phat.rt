@@ -62,8 +62,8 @@ const RECORDS: [StructureForm; 2] = [
     },
 ];
 
-/// The Platform Health Assessment Table (ACPI 6.5, 5.2.31). A device path ends where the device-specific data begin. If their offset
-/// is 0, there are none, and the path ends with the record.
+/// The Platform Health Assessment Table (ACPI 6.5, 5.2.31). A device path ends where the device-specific data begin. If their
+/// offset is 0, there are none, and the path ends with the record.
 pub const PHAT: TableForm = TableForm {
     name: "Platform Health Assessment Table (PHAT)",
     parts: &[Part::Fields(&HEADER)],

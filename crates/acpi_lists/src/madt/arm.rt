@@ -211,7 +211,8 @@ impl Gicc {
         self
     }
 
-    /// The same interface in the form of ACPI 6.0 to 6.4: its first 80 bytes, without the interrupt of the Trace Buffer Extension.
+    /// The same interface in the form of ACPI 6.0 to 6.4: its first 80 bytes, without the interrupt of the Trace Buffer
+    /// Extension.
     pub fn earlier(self) -> EarlierGicc
         ensures { result ≡ record { gicc = self } }
     {

@@ -225,6 +225,7 @@ pub fn push_head(kind: Kind<'_>, count: usize, text: &mut String) -> Result<(), 
         }
         Kind::Fatal(kind, code) => push_fatal(kind, code, text),
         Kind::MatchTest(code) => push_number("test ", u64::from(code), text),
+        Kind::Timeout(milliseconds) => push_number("timeout ", u64::from(milliseconds), text),
         Kind::Unread(_, bytes) => push_bytes("unread", bytes, text),
     }
 }

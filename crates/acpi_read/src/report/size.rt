@@ -103,6 +103,7 @@ fn own_size(kind: Kind<'_>, width: u8) -> u32
         Kind::Number(value) => number_size(value, width),
         Kind::Ones | Kind::Local(_) | Kind::Arg(_) | Kind::Package | Kind::RoomyPackage(_) => 1,
         Kind::MatchTest(_) => 1,
+        Kind::Timeout(_) => 2,
         Kind::Unread(_, bytes) => capped(bytes.len()),
         Kind::Fatal(..) => 7,
         Kind::Text(text) => sum(capped(text.len()), 2),

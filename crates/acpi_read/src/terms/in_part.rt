@@ -133,14 +133,14 @@ fn frame<'a>(
     }
 }
 
-/// Reads one term as far as it can be, and returns the bytes after it. The bytes are the end of a list, which ends `end` bytes after
-/// the first byte of all.
+/// Reads one term as far as it can be, and returns the bytes after it. The bytes are the end of a list, which ends `end` bytes
+/// after the first byte of all.
 #[cycle(part)]
 fn one<'a>(reader: &TermReader, bytes: &'a [u8], end: usize) -> Result<(Term, &'a [u8]), AllocError>
     requires some { 0 < length bytes.now }
     requires within { length bytes.now ≤ end }
-    ensures { IfOk result (λ x. IsOneInPart (grammar reader.now) reader.now.depth end bytes.now (view x.0).0 (view x.0).1 (view x.0).2
-        x.1.now) }
+    ensures { IfOk result (λ x. IsOneInPart (grammar reader.now) reader.now.depth end bytes.now (view x.0).0 (view x.0).1
+        (view x.0).2 x.1.now) }
 {
     let error = match term(reader, Mode::Term, bytes, end) {
         Ok(found) => return Ok(found),
@@ -169,10 +169,10 @@ fn list(reader: &TermReader, bytes: &[u8], end: usize) -> Result<Vec<Term>, Allo
     Ok(terms)
 }
 
-/// The terms that the bytes spell in the language of the standard (ACPI 6.5, 20.2), as far as they can be read. A term that can't be
-/// read is left as bytes, with all that is after it in its list: that is the end of the scope, the device, the method or the like
-/// that it is in. The terms before it and after the list are read. Names take these numbers of arguments. Offsets count from the
-/// first byte. Memory is taken from the allocator of `arities`.
+/// The terms that the bytes spell in the language of the standard (ACPI 6.5, 20.2), as far as they can be read. A term that can't
+/// be read is left as bytes, with all that is after it in its list: that is the end of the scope, the device, the method or the
+/// like that it is in. The terms before it and after the list are read. Names take these numbers of arguments. Offsets count from
+/// the first byte. Memory is taken from the allocator of `arities`.
 pub fn terms_in_part(bytes: &[u8], arities: &Arities) -> Result<Vec<Term>, AllocError>
     ensures { IfOk result (λ v. AreReadInPart (grammar_by Standard arities.now) bytes.now (views v.items)) }
 {

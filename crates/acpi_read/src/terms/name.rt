@@ -1,9 +1,9 @@
 //! Names (ACPI 6.5, 20.2.2).
 
 ghost use Rattle.std.specs.Prelude.{◌≡◌, true, false};
-ghost use Rattle.acpi_term.specs.Reading.{begins_name, segment_at, segments_at, path_at, name_at};
+ghost use Rattle.acpi_term.specs.Reading.{names_first, segment_at, segments_at, path_at, name_at};
 ghost use Rattle.acpi_term.specs.Reading.{above_at, name_string_at, name_in};
-ghost use Rattle.acpi_term.specs.Name.{begins_up};
+ghost use Rattle.acpi_term.specs.Name.{begins_name, begins_up};
 ghost use Rattle.acpi_read.specs.Cause.{Gives};
 
 use crate::terms::cause::Cause;
@@ -21,6 +21,16 @@ pub fn begins_name(language: Language, byte: u8) -> bool
         || byte == 0x2f
         || byte == 0x5c
         || (byte == 0x5e && language.is_standard())
+}
+
+/// Whether a name of the standard may begin with the first of the bytes.
+pub fn names_first(bytes: &[u8]) -> bool
+    ensures { result ≡ names_first bytes.now }
+{
+    match bytes {
+        [] => false,
+        [byte, ..] => begins_name(Language::Standard, *byte),
+    }
 }
 
 /// A standard segment, and the bytes after it.

@@ -12,7 +12,8 @@ ghost use Rattle.acpi_term.specs.Reading.{device_inside, method_inside, power_in
 ghost use Rattle.acpi_term.specs.Reading.{thermal_inside, processor_inside, index_flags, index_inside, bank_inside};
 ghost use Rattle.acpi_term.specs.Reading.{external_after};
 ghost use Rattle.acpi_term.specs.Reading.{further, fills};
-ghost use Rattle.acpi_term.specs.Reading.{fatal_at, test_at, head_at};
+ghost use Rattle.acpi_term.specs.Reading.{fatal_at, test_at, timeout_at, head_at, named_or_operator_at};
+ghost use Rattle.acpi_term.specs.declared.op.Op.TheVariants.{Acquire, Release};
 ghost use Rattle.acpi_term.specs.Reading.{package_at, buffer_at, operator_at, extended_at, local_at, opcode_at, open_at};
 ghost use Rattle.acpi_read.specs.Cause.{Gives};
 ghost use Rattle.acpi_read.specs.TermStart.{seen, block_head, block_width, first_head, first_width, LiesWithin, IsAlone};
@@ -20,7 +21,7 @@ ghost use Rattle.acpi_read.specs.TermStart.{seen, block_head, block_width, first
 use crate::terms::cause::Cause;
 use crate::terms::field::entries;
 use crate::terms::frame::{frame, number};
-use crate::terms::name::{begins_name, name};
+use crate::terms::name::{begins_name, name, names_first};
 use crate::terms::text::text;
 use acpi_term::language::Language;
 use acpi_term::mode::Mode;
@@ -241,9 +242,12 @@ fn mutex(language: Language, alloc: Global, bytes: &[u8]) -> Result<TermStart<'_
 }
 
 fn acquire(language: Language, alloc: Global, bytes: &[u8]) -> Result<TermStart<'_>, Cause>
-    ensures gives { Gives seen result (named_at language acquire_after bytes.now) }
+    ensures gives { Gives seen result (named_or_operator_at language acquire_after Acquire bytes.now) }
     ensures alone { IfOk result IsAlone }
 {
+    if language.is_standard() && !names_first(bytes) {
+        return Ok(TermStart::Operator(Op::Acquire, bytes));
+    }
     let (name, rest) = name(language, alloc, bytes)?;
     let (timeout, rest) = number(2, rest)?;
     let timeout = timeout as u16;
@@ -251,9 +255,12 @@ fn acquire(language: Language, alloc: Global, bytes: &[u8]) -> Result<TermStart<
 }
 
 fn release(language: Language, alloc: Global, bytes: &[u8]) -> Result<TermStart<'_>, Cause>
-    ensures gives { Gives seen result (named_at language release_after bytes.now) }
+    ensures gives { Gives seen result (named_or_operator_at language release_after Release bytes.now) }
     ensures alone { IfOk result IsAlone }
 {
+    if language.is_standard() && !names_first(bytes) {
+        return Ok(TermStart::Operator(Op::Release, bytes));
+    }
     let (name, rest) = name(language, alloc, bytes)?;
     Ok(TermStart::Leaf(Term::Release { name }, rest))
 }
@@ -681,7 +688,19 @@ fn opcode(language: Language, alloc: Global, byte: u8, rest: &[u8]) -> Result<Te
     }
 }
 
-// Reads the head of a term where no test of a Match stands.
+// Reads the timeout of an Acquire.
+fn timeout(language: Language, bytes: &[u8]) -> Result<TermStart<'_>, Cause>
+    ensures gives { Gives seen result (timeout_at language bytes.now) }
+    ensures alone { IfOk result IsAlone }
+{
+    if !language.is_standard() {
+        return Err(Cause::Opcode);
+    }
+    let (milliseconds, rest) = number(2, bytes)?;
+    Ok(TermStart::Leaf(Term::Timeout(milliseconds as u16), rest))
+}
+
+// Reads the head of a term where neither a test of a Match nor a timeout stands.
 #[tactic(auto, unfolding(acpi_term::specs::Reading::head_at))]
 fn open_head<'a>(
     language: Language,
@@ -716,6 +735,9 @@ fn open_placed<'a>(
 {
     if mode.is_test(language) {
         return test(language, bytes);
+    }
+    if mode.is_timeout(language) {
+        return timeout(language, bytes);
     }
     open_head(language, arities, mode, bytes)
 }

@@ -1,6 +1,6 @@
 use Rattle.std.proofs.Common.{◌≡◌, length}
 use Rattle.acpi_terms_text.specs.Path.{path_in}
-use Rattle.acpi_terms_text.proofs.path.of_bytes.Given as goal
+use Rattle.acpi_terms_text.proofs.path.parts_in.Given as goal
 
 abbrev pub invariant-parents : goal.invariant-parents
 invariant-parents l = path_in l.around l.rest ≡ path_in l.scope l.name

@@ -1,7 +1,0 @@
-use Rattle.std.proofs.Common.{None}
-use Rattle.acpi_forms.specs.Named.{rsdp_names}
-use Rattle.acpi_forms.proofs.Named.{text_is}
-use Rattle.acpi_forms.proofs.show.show_rsdp.Goals as goal
-
-pub returns-clause-text : goal.returns-clause-text
-returns-clause-text c = text_is rsdp_names None c.args.bytes.now c.rsdp_form.result c.text_by.result c.rsdp_form.ensures c.text_by.ensures.text
