@@ -633,6 +633,8 @@ static void try_arguments(void) {
         want(check_aml(call, 5, wrong[i], strlen(wrong[i])) == HYSSOP_FAULT_ARITIES && place == 0);
     /* An opcode that no term begins with, after a term of one byte. */
     want(check_aml("\x01\xfe", 2, "", 0) == HYSSOP_FAULT_OPCODE && place == 1);
+    /* External (\FOO_, MethodObj, 2), ThermalZone (TZ00) {}, Event (EVT0) and Sleep (5) (20.2.5). */
+    want(check_aml("\x15\\FOO_\x08\x02\x5b\x85\x05TZ00\x5b\x02" "EVT0\x5b\x22\x0a\x05", 25, "", 0) == 0 && place == 0);
 }
 
 /* ---- tables */

@@ -1,9 +1,10 @@
 -- Bytes that spell terms, and how many arguments names take by a text.
 use Rattle.std.specs.Prelude.{◌≡◌, ◌⊎◌, ℕ, ◌==◌, if◌then◌else◌, List, [], ◌∷◌, Some}
 use Rattle.std.specs.Str.{IsUtf8}
-use Rattle.acpi_read.specs.Terms.{AreRead, IsUnread}
-use Rattle.acpi_term.specs.Arity.{arity}
+use Rattle.acpi_read.specs.Terms.{AreReadIn, IsUnreadIn}
+use Rattle.acpi_term.specs.Arity.{grammar_by}
 use Rattle.acpi_term.specs.Tree.{Terms}
+use Rattle.acpi_term.specs.declared.language.Language.TheVariants.{Standard}
 use Rattle.acpi_term.specs.declared.read_error.ReadError.{ReadError}
 use Rattle.acpi_input.specs.Stated.{stated}
 use Rattle.acpi_c_calls.specs.Refused.{by_memory, by_read}
@@ -35,26 +36,27 @@ AreNotStated text refused =
 
 -- ---- terms
 
-abbrev pub SpellTerms : (List ℕ → ℕ) → List ℕ → Type 0
-SpellTerms arity bytes = (terms : Terms) × AreRead arity bytes terms
+-- bytes spell terms, if names take these numbers of arguments
+abbrev pub SpellTerms : List (List ℕ × ℕ) → List ℕ → Type 0
+SpellTerms arities bytes = (terms : Terms) × AreReadIn (grammar_by Standard arities) bytes terms
 
 -- why bytes spell no terms that can be read
-pub record IsTermsRefusal (arity : List ℕ → ℕ) (bytes : List ℕ) (refused : Refused) : Type 0 where
+pub record IsTermsRefusal (arities : List (List ℕ × ℕ)) (bytes : List ℕ) (refused : Refused) : Type 0 where
   pub error : ReadError
   pub is : refused ≡ by_read error
-  pub why : IsUnread arity bytes error
+  pub why : IsUnreadIn (grammar_by Standard arities) bytes error
 
 -- the text states numbers of arguments, and with these the bytes spell terms
 pub record AreTerms (text bytes : List ℕ) : Type 0 where
   pub arities : List (List ℕ × ℕ)
   pub stated : AreStated text arities
-  pub spelled : SpellTerms (arity arities) bytes
+  pub spelled : SpellTerms arities bytes
 
 -- the text states numbers of arguments, and with these the bytes spell no terms
 pub record AreNoTerms (text bytes : List ℕ) (refused : Refused) : Type 0 where
   pub arities : List (List ℕ × ℕ)
   pub stated : AreStated text arities
-  pub why : IsTermsRefusal (arity arities) bytes refused
+  pub why : IsTermsRefusal arities bytes refused
 
 abbrev pub IsAmlRefusal : List ℕ → List ℕ → Refused → Type 0
 IsAmlRefusal text bytes refused = AreNotStated text refused ⊎ AreNoTerms text bytes refused

@@ -1,7 +1,6 @@
 //! Checks of AML.
 
 ghost use Rattle.std.specs.Prelude.{◌≡◌, ◌≢◌, ◌<◌, ◌++◌, ◌∷◌, [], length, map, string_bytes, IfOk, IfErr};
-ghost use Rattle.acpi_term.specs.Arity.{arity};
 ghost use Rattle.acpi_c_calls.specs.Aml.{words, AreStated, AreNotStated, AreTerms, IsAmlRefusal};
 ghost use Rattle.acpi_c_calls.specs.Aml.{SpellTerms, IsTermsRefusal};
 ghost use Rattle.acpi_c_calls.specs.Results.{IsOutcome, Checks};
@@ -11,7 +10,7 @@ use crate::fault::Fault;
 use crate::give::result_of;
 use crate::refused::Refused;
 use acpi_input::stated::{Unstated, arities};
-use acpi_read::terms::terms;
+use acpi_read::terms::standard_terms;
 use acpi_term::name_string::Arities;
 use std::alloc::{AllocError, Global};
 
@@ -69,9 +68,9 @@ pub(crate) fn stated(alloc: Global, text: &[u8]) -> Result<Arities, Refused>
 
 // Checks that bytes spell terms.
 fn spelled(bytes: &[u8], arities: &Arities) -> Result<(), Refused>
-    ensures { IsOutcome (λ done. SpellTerms (arity arities.now) bytes.now) (IsTermsRefusal (arity arities.now) bytes.now) result }
+    ensures { IsOutcome (λ done. SpellTerms arities.now bytes.now) (IsTermsRefusal arities.now bytes.now) result }
 {
-    match terms(bytes, arities) {
+    match standard_terms(bytes, arities) {
         Ok(_) => Ok(()),
         Err(error) => Err(Refused::from(error)),
     }
@@ -85,9 +84,9 @@ fn checked(alloc: Global, bytes: &[u8], text: &[u8]) -> Result<(), Refused>
     spelled(bytes, &arities)
 }
 
-/// Checks that bytes spell terms of AML (ACPI 6.5, 20.2), without a table's header. AML doesn't say how many arguments a call
-/// of a method has: `arities` is a text of words `NAME=N` with a space between two, and any other name takes none. Returns 0,
-/// or the number of a fault, whose offset in `bytes` is `place`.
+/// Checks that bytes spell terms of AML (ACPI 6.5, 20.2), in the language of the standard and without a table's header. AML
+/// doesn't say how many arguments a call of a method has: `arities` is a text of words `NAME=N` with a space between two, and
+/// any other name takes none. Returns 0, or the number of a fault, whose offset in `bytes` is `place`.
 pub fn check_aml(alloc: Global, bytes: &[u8], arities: &[u8], place: &mut u64) -> u32
     ensures { Checks (AreTerms arities.now bytes.now) (IsAmlRefusal arities.now bytes.now) result place.new }
 {
