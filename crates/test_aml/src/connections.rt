@@ -91,9 +91,12 @@ const NO_INTERRUPT: GpioIntSettings = GpioIntSettings {
     debounce_timeout: 0,
 };
 
-// Fails unless an interrupt connection without pins and names has this consumer, these flags and this pin configuration.
+// Fails unless an interrupt connection without pins and names has this consumer, these flags and this pin configuration, and
+// its words have their numbers.
 fn has_flags(alloc: Global, settings: GpioIntSettings, wanted: [u8; 3]) -> Result<(), Fail> {
     let [consumer, flags, config] = wanted;
+    let words = [settings.polarity as u8, settings.pin_config as u8];
+    equal(&words, &[(flags >> 1) & 3, config])?;
     makes(
         alloc,
         GpioInt::new(alloc, settings, &[], "", &[]),
@@ -182,9 +185,10 @@ const NO_PORT: GpioIoSettings = GpioIoSettings {
     drive_strength: 0,
 };
 
-// Fails unless an I/O connection without pins and names has this consumer and these flags.
+// Fails unless an I/O connection without pins and names has this consumer and these flags, and its restriction has its number.
 fn has_io_flags(alloc: Global, settings: GpioIoSettings, wanted: [u8; 2]) -> Result<(), Fail> {
     let [consumer, flags] = wanted;
+    equal(&(settings.restriction as u8), &(flags & 3))?;
     makes(
         alloc,
         GpioIo::new(alloc, settings, &[], "", &[]),
@@ -520,9 +524,18 @@ const NO_UART: UartSettings = UartSettings {
     transmit_fifo: 0,
 };
 
-// Fails unless a connection to a UART without a name has these flags, this parity and these lines.
+// Fails unless a connection to a UART without a name has these flags, this parity and these lines, and its words have their
+// numbers.
 fn has_uart(alloc: Global, settings: UartSettings, wanted: [u8; 3]) -> Result<(), Fail> {
     let [specific, parity, lines] = wanted;
+    let words = [
+        settings.flow_control as u8,
+        settings.stop_bits as u8,
+        settings.data_bits as u8,
+        settings.parity as u8,
+    ];
+    let (flow, stop, data) = (specific & 3, (specific >> 2) & 3, (specific >> 4) & 7);
+    equal(&words, &[flow, stop, data, parity])?;
     makes(
         alloc,
         UartSerialBus::new(alloc, settings, NO_SERIAL, "", &[]),
@@ -534,116 +547,27 @@ fn has_uart(alloc: Global, settings: UartSettings, wanted: [u8; 3]) -> Result<()
 }
 
 #[test]
+#[rattlefmt::skip]
 fn uart_flags(rt: HostRuntime) -> Result<(), Fail> {
     let alloc = rt.alloc();
     let none = NO_UART;
     for (settings, wanted) in [
         (none, [0x00, 0, 0x00]),
-        (
-            UartSettings {
-                flow_control: FlowControl::Hardware,
-                ..none
-            },
-            [0x01, 0, 0x00],
-        ),
-        (
-            UartSettings {
-                flow_control: FlowControl::XonXoff,
-                ..none
-            },
-            [0x02, 0, 0x00],
-        ),
-        (
-            UartSettings {
-                stop_bits: StopBits::One,
-                ..none
-            },
-            [0x04, 0, 0x00],
-        ),
-        (
-            UartSettings {
-                stop_bits: StopBits::OneAndHalf,
-                ..none
-            },
-            [0x08, 0, 0x00],
-        ),
-        (
-            UartSettings {
-                stop_bits: StopBits::Two,
-                ..none
-            },
-            [0x0c, 0, 0x00],
-        ),
-        (
-            UartSettings {
-                data_bits: DataBits::Six,
-                ..none
-            },
-            [0x10, 0, 0x00],
-        ),
-        (
-            UartSettings {
-                data_bits: DataBits::Seven,
-                ..none
-            },
-            [0x20, 0, 0x00],
-        ),
-        (
-            UartSettings {
-                data_bits: DataBits::Eight,
-                ..none
-            },
-            [0x30, 0, 0x00],
-        ),
-        (
-            UartSettings {
-                data_bits: DataBits::Nine,
-                ..none
-            },
-            [0x40, 0, 0x00],
-        ),
-        (
-            UartSettings {
-                big_endian: true,
-                ..none
-            },
-            [0x80, 0, 0x00],
-        ),
-        (
-            UartSettings {
-                parity: Parity::Even,
-                ..none
-            },
-            [0x00, 1, 0x00],
-        ),
-        (
-            UartSettings {
-                parity: Parity::Odd,
-                ..none
-            },
-            [0x00, 2, 0x00],
-        ),
-        (
-            UartSettings {
-                parity: Parity::Mark,
-                ..none
-            },
-            [0x00, 3, 0x00],
-        ),
-        (
-            UartSettings {
-                parity: Parity::Space,
-                ..none
-            },
-            [0x00, 4, 0x00],
-        ),
-        (
-            UartSettings {
-                lines: 0x84,
-                ..none
-            },
-            [0x00, 0, 0x84],
-        ),
+        (UartSettings { flow_control: FlowControl::Hardware, ..none }, [0x01, 0, 0x00]),
+        (UartSettings { flow_control: FlowControl::XonXoff, ..none }, [0x02, 0, 0x00]),
+        (UartSettings { stop_bits: StopBits::One, ..none }, [0x04, 0, 0x00]),
+        (UartSettings { stop_bits: StopBits::OneAndHalf, ..none }, [0x08, 0, 0x00]),
+        (UartSettings { stop_bits: StopBits::Two, ..none }, [0x0c, 0, 0x00]),
+        (UartSettings { data_bits: DataBits::Six, ..none }, [0x10, 0, 0x00]),
+        (UartSettings { data_bits: DataBits::Seven, ..none }, [0x20, 0, 0x00]),
+        (UartSettings { data_bits: DataBits::Eight, ..none }, [0x30, 0, 0x00]),
+        (UartSettings { data_bits: DataBits::Nine, ..none }, [0x40, 0, 0x00]),
+        (UartSettings { big_endian: true, ..none }, [0x80, 0, 0x00]),
+        (UartSettings { parity: Parity::Even, ..none }, [0x00, 1, 0x00]),
+        (UartSettings { parity: Parity::Odd, ..none }, [0x00, 2, 0x00]),
+        (UartSettings { parity: Parity::Mark, ..none }, [0x00, 3, 0x00]),
+        (UartSettings { parity: Parity::Space, ..none }, [0x00, 4, 0x00]),
+        (UartSettings { lines: 0x84, ..none }, [0x00, 0, 0x84]),
     ] {
         has_uart(alloc, settings, wanted)?;
     }
@@ -672,41 +596,4 @@ fn uart_with_names(rt: HostRuntime) -> Result<(), Fail> {
             0x03, 0x04, 0x05, 0x06, 0x07, 0x08, 0x02, 0xc0, 0xaa, 0x55, 0x30, 0x00,
         ],
     )
-}
-
-#[test]
-fn numbers_of_words(_: HostRuntime) -> Result<(), Fail> {
-    for (number, wanted) in [
-        (GpioPolarity::ActiveHigh as u8, 0),
-        (GpioPolarity::ActiveLow as u8, 1),
-        (GpioPolarity::ActiveBoth as u8, 2),
-        (IoRestriction::InputAndOutput as u8, 0),
-        (IoRestriction::InputOnly as u8, 1),
-        (IoRestriction::OutputOnly as u8, 2),
-        (IoRestriction::InputAndOutputPreserved as u8, 3),
-        (PinConfig::Default as u8, 0),
-        (PinConfig::PullUp as u8, 1),
-        (PinConfig::PullDown as u8, 2),
-        (PinConfig::PullNone as u8, 3),
-        (DataBits::Five as u8, 0),
-        (DataBits::Six as u8, 1),
-        (DataBits::Seven as u8, 2),
-        (DataBits::Eight as u8, 3),
-        (DataBits::Nine as u8, 4),
-        (StopBits::Zero as u8, 0),
-        (StopBits::One as u8, 1),
-        (StopBits::OneAndHalf as u8, 2),
-        (StopBits::Two as u8, 3),
-        (FlowControl::Absent as u8, 0),
-        (FlowControl::Hardware as u8, 1),
-        (FlowControl::XonXoff as u8, 2),
-        (Parity::Absent as u8, 0),
-        (Parity::Even as u8, 1),
-        (Parity::Odd as u8, 2),
-        (Parity::Mark as u8, 3),
-        (Parity::Space as u8, 4),
-    ] {
-        equal(&number, &wanted)?;
-    }
-    Ok(())
 }

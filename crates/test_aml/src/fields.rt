@@ -107,16 +107,17 @@ fn a_field_of_three_entries(rt: HostRuntime) -> Result<(), Fail> {
     )
 }
 
-// The flags of an access type under these rules, which have these numbers.
-fn flags(alloc: Global, access: FieldAccessType, rest: u8) -> Result<(), Fail> {
-    for (lock, of_lock) in [(FieldLockRule::NoLock, 0x00), (FieldLockRule::Lock, 0x10)] {
-        for (update, of_update) in [
-            (FieldUpdateRule::Preserve, 0x00),
-            (FieldUpdateRule::WriteAsOnes, 0x20),
-            (FieldUpdateRule::WriteAsZeroes, 0x40),
+// Fails unless a field of an access type of this number has the flags of each rule, and these are the numbers of the rules.
+fn flags(alloc: Global, access: FieldAccessType, number: u8) -> Result<(), Fail> {
+    for (lock, locked) in [(FieldLockRule::NoLock, 0u8), (FieldLockRule::Lock, 1)] {
+        for (update, rule) in [
+            (FieldUpdateRule::Preserve, 0u8),
+            (FieldUpdateRule::WriteAsOnes, 1),
+            (FieldUpdateRule::WriteAsZeroes, 2),
         ] {
+            equal(&[lock as u8, update as u8], &[locked, rule])?;
             let mut wanted = *b"\x5b\x81\x06PRST\xff";
-            wanted[7] = rest | of_lock | of_update;
+            wanted[7] = number | (locked << 4) | (rule << 5);
             let field = field(alloc, "PRST", (access, lock, update), &[]);
             makes(alloc, field, &wanted)?;
         }
@@ -138,15 +139,6 @@ fn field_flags(rt: HostRuntime) -> Result<(), Fail> {
         flags(rt.alloc(), access, number)?;
     }
     Ok(())
-}
-
-#[test]
-fn rules(_: HostRuntime) -> Result<(), Fail> {
-    equal(&(FieldLockRule::NoLock as u8), &0)?;
-    equal(&(FieldLockRule::Lock as u8), &1)?;
-    equal(&(FieldUpdateRule::Preserve as u8), &0)?;
-    equal(&(FieldUpdateRule::WriteAsOnes as u8), &1)?;
-    equal(&(FieldUpdateRule::WriteAsZeroes as u8), &2)
 }
 
 fn reserved(alloc: Global, bits: usize) -> R<Field> {

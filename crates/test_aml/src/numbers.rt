@@ -5,7 +5,8 @@ use std::test::Fail;
 use test_support::all;
 
 #[test]
-fn bytes_and_words(rt: HostRuntime) -> Result<(), Fail> {
+fn numbers(rt: HostRuntime) -> Result<(), Fail> {
+    let large: Usize = 0x0807_0605_0403_0201;
     all(
         rt.alloc(),
         &[
@@ -19,15 +20,6 @@ fn bytes_and_words(rt: HostRuntime) -> Result<(), Fail> {
             (&0xffu16, &[0x0a, 0xff]),
             (&0x100u16, &[0x0b, 0x00, 0x01]),
             (&0x4567u16, &[0x0b, 0x67, 0x45]),
-        ],
-    )
-}
-
-#[test]
-fn double_words(rt: HostRuntime) -> Result<(), Fail> {
-    all(
-        rt.alloc(),
-        &[
             (&0u32, &[0x00]),
             (&1u32, &[0x01]),
             (&2u32, &[0x0a, 0x02]),
@@ -35,15 +27,6 @@ fn double_words(rt: HostRuntime) -> Result<(), Fail> {
             (&0xffffu32, &[0x0b, 0xff, 0xff]),
             (&0x1_0000u32, &[0x0c, 0x00, 0x00, 0x01, 0x00]),
             (&0x0403_0201u32, &[0x0c, 0x01, 0x02, 0x03, 0x04]),
-        ],
-    )
-}
-
-#[test]
-fn quad_words(rt: HostRuntime) -> Result<(), Fail> {
-    all(
-        rt.alloc(),
-        &[
             (&0u64, &[0x00]),
             (&1u64, &[0x01]),
             (&0x89u64, &[0x0a, 0x89]),
@@ -53,16 +36,6 @@ fn quad_words(rt: HostRuntime) -> Result<(), Fail> {
             (&0x1_0000_0000u64, &[0x0e, 0, 0, 0, 0, 1, 0, 0, 0]),
             (&0x0807_0605_0403_0201u64, &[0x0e, 1, 2, 3, 4, 5, 6, 7, 8]),
             (&u64::MAX, &[0x0e, 255, 255, 255, 255, 255, 255, 255, 255]),
-        ],
-    )
-}
-
-#[test]
-fn sizes(rt: HostRuntime) -> Result<(), Fail> {
-    let large: Usize = 0x0807_0605_0403_0201;
-    all(
-        rt.alloc(),
-        &[
             (&0usize, &[0x00]),
             (&1usize, &[0x01]),
             (&0x89usize, &[0x0a, 0x89]),

@@ -233,14 +233,6 @@ fn a_refused_element(rt: HostRuntime) -> Result<(), Fail> {
 }
 
 #[test]
-fn a_refused_element_of_a_builder(rt: HostRuntime) -> Result<(), Fail> {
-    let mut builder = PackageBuilder::new(rt.alloc());
-    builder.add_element(&ONE)?;
-    refuses(builder.add_element(&Arg(7)), Error::ArgNumber)?;
-    writes(rt.alloc(), &builder, &[0x12, 0x03, 0x01, 0x01])
-}
-
-#[test]
 fn builders(rt: HostRuntime) -> Result<(), Fail> {
     let alloc = rt.alloc();
     let mut builder = PackageBuilder::new(alloc);

@@ -26,6 +26,7 @@ fn an_element_that_refuses(rt: HostRuntime) -> Result<(), Fail> {
     let mut builder = PackageBuilder::new(rt.alloc());
     builder.add_element(&ONE)?;
     refuses(builder.add_element(&BROKEN), Error::Sink(9))?;
+    refuses(builder.add_element(&Arg(7)), Error::ArgNumber)?;
     writes(rt.alloc(), &builder, &[0x12, 0x03, 0x01, 0x01])
 }
 
@@ -38,15 +39,6 @@ fn call(alloc: Global, arguments: &[&dyn Aml]) -> R<MethodCall> {
     MethodCall::new(Path::new(alloc, "NAME")?, arguments)
 }
 
-#[test]
-fn a_child_that_refuses(rt: HostRuntime) -> Result<(), Fail> {
-    let alloc = rt.alloc();
-    refuses(Package::new(broken_first(alloc)?), Error::Sink(9))?;
-    refuses(scope(alloc, "_SB_", &[&BROKEN, &ZERO]), Error::Sink(9))?;
-    refuses(device(alloc, "_SB_", &[&BROKEN, &ZERO]), Error::Sink(9))?;
-    refuses(call(alloc, &[&BROKEN, &ZERO]), Error::Sink(9))
-}
-
 fn power(alloc: Global) -> R<PowerResource> {
     let parts = broken_first(alloc)?;
     PowerResource::new(Path::new(alloc, "_SB_")?, 0, 0, parts)
@@ -55,10 +47,14 @@ fn power(alloc: Global) -> R<PowerResource> {
 #[test]
 fn a_part_that_refuses(rt: HostRuntime) -> Result<(), Fail> {
     let alloc = rt.alloc();
+    refuses(scope(alloc, "_SB_", &[&BROKEN, &ZERO]), Error::Sink(9))?;
+    refuses(device(alloc, "_SB_", &[&BROKEN, &ZERO]), Error::Sink(9))?;
     refuses(power(alloc), Error::Sink(9))?;
     refuses(Else::new(broken_first(alloc)?), Error::Sink(9))?;
     refuses(If::new(&ONE, broken_first(alloc)?), Error::Sink(9))?;
-    refuses(While::new(&ONE, broken_first(alloc)?), Error::Sink(9))
+    refuses(While::new(&ONE, broken_first(alloc)?), Error::Sink(9))?;
+    refuses(VarPackageTerm::new(alloc, &BROKEN), Error::Sink(9))?;
+    refuses(named(alloc, "_HID", &BROKEN), Error::Sink(9))
 }
 
 fn region(alloc: Global, start: &dyn Aml, size: &dyn Aml) -> R<OpRegion> {
@@ -68,16 +64,6 @@ fn region(alloc: Global, start: &dyn Aml, size: &dyn Aml) -> R<OpRegion> {
         start,
         size,
     )
-}
-
-#[test]
-fn an_operand_that_refuses(rt: HostRuntime) -> Result<(), Fail> {
-    let alloc = rt.alloc();
-    refuses(If::new(&BROKEN, Vec::new(alloc)), Error::Sink(9))?;
-    refuses(While::new(&BROKEN, Vec::new(alloc)), Error::Sink(9))?;
-    refuses(VarPackageTerm::new(alloc, &BROKEN), Error::Sink(9))?;
-    refuses(named(alloc, "_HID", &BROKEN), Error::Sink(9))?;
-    refuses(region(alloc, &BROKEN, &Arg(7)), Error::Sink(9))
 }
 
 #[test]

@@ -8,7 +8,7 @@ use std::test::Fail;
 use test_support::{all, equal, makes, refuses, writes};
 
 #[test]
-fn word_spaces(rt: HostRuntime) -> Result<(), Fail> {
+fn spaces_of_each_width(rt: HostRuntime) -> Result<(), Fail> {
     all(
         rt.alloc(),
         &[
@@ -42,70 +42,55 @@ fn word_spaces(rt: HostRuntime) -> Result<(), Fail> {
                     0x00, 0xfe, 0xff,
                 ],
             ),
-        ],
-    )
-}
-
-#[test]
-fn double_word_spaces(rt: HostRuntime) -> Result<(), Fail> {
-    let alloc = rt.alloc();
-    writes(
-        alloc,
-        &AddressSpace::new_memory(
-            AddressSpaceCacheable::Cacheable,
-            true,
-            0xc000_0000u32,
-            0xc000_ffff,
-            Some(1),
-        ),
-        &[
-            0x87, 0x17, 0x00, 0x00, 0x0c, 0x03, 0, 0, 0, 0, 0x00, 0x00, 0x00, 0xc0, 0xff, 0xff,
-            0x00, 0xc0, 1, 0, 0, 0, 0x00, 0x00, 0x01, 0x00,
-        ],
-    )?;
-    writes(
-        alloc,
-        &AddressSpace::new_bus_number(1u32, u32::MAX),
-        &[
-            0x87, 0x17, 0x00, 0x02, 0x0c, 0x00, 0, 0, 0, 0, 0x01, 0x00, 0x00, 0x00, 0xff, 0xff,
-            0xff, 0xff, 0, 0, 0, 0, 0xff, 0xff, 0xff, 0xff,
-        ],
-    )?;
-    writes(
-        alloc,
-        &AddressSpace::new_io(1u32, 0xffff_fffe, Some(0x0403_0201)),
-        &[
-            0x87, 0x17, 0x00, 0x01, 0x0c, 0x03, 0, 0, 0, 0, 0x01, 0x00, 0x00, 0x00, 0xfe, 0xff,
-            0xff, 0xff, 1, 2, 3, 4, 0xfe, 0xff, 0xff, 0xff,
-        ],
-    )
-}
-
-#[test]
-fn quad_word_spaces(rt: HostRuntime) -> Result<(), Fail> {
-    let alloc = rt.alloc();
-    writes(
-        alloc,
-        &AddressSpace::new_memory(
-            AddressSpaceCacheable::PreFetchable,
-            false,
-            0x8_0000_0000u64,
-            0xf_ffff_ffff,
-            None,
-        ),
-        &[
-            0x8a, 0x2b, 0x00, 0x00, 0x0c, 0x06, 0, 0, 0, 0, 0, 0, 0, 0, 0, 0, 0, 0, 0x08, 0, 0, 0,
-            0xff, 0xff, 0xff, 0xff, 0x0f, 0, 0, 0, 0, 0, 0, 0, 0, 0, 0, 0, 0, 0, 0, 0, 0x08, 0, 0,
-            0,
-        ],
-    )?;
-    writes(
-        alloc,
-        &AddressSpace::new_io(0x1_0000u64, 0x1_ffff, Some(0x1234_5678_9abc_def0)),
-        &[
-            0x8a, 0x2b, 0x00, 0x01, 0x0c, 0x03, 0, 0, 0, 0, 0, 0, 0, 0, 0, 0, 0x01, 0, 0, 0, 0, 0,
-            0xff, 0xff, 0x01, 0, 0, 0, 0, 0, 0xf0, 0xde, 0xbc, 0x9a, 0x78, 0x56, 0x34, 0x12, 0, 0,
-            0x01, 0, 0, 0, 0, 0,
+            (
+                &AddressSpace::new_memory(
+                    AddressSpaceCacheable::Cacheable,
+                    true,
+                    0xc000_0000u32,
+                    0xc000_ffff,
+                    Some(1),
+                ),
+                &[
+                    0x87, 0x17, 0x00, 0x00, 0x0c, 0x03, 0, 0, 0, 0, 0x00, 0x00, 0x00, 0xc0, 0xff,
+                    0xff, 0x00, 0xc0, 1, 0, 0, 0, 0x00, 0x00, 0x01, 0x00,
+                ],
+            ),
+            (
+                &AddressSpace::new_bus_number(1u32, u32::MAX),
+                &[
+                    0x87, 0x17, 0x00, 0x02, 0x0c, 0x00, 0, 0, 0, 0, 0x01, 0x00, 0x00, 0x00, 0xff,
+                    0xff, 0xff, 0xff, 0, 0, 0, 0, 0xff, 0xff, 0xff, 0xff,
+                ],
+            ),
+            (
+                &AddressSpace::new_io(1u32, 0xffff_fffe, Some(0x0403_0201)),
+                &[
+                    0x87, 0x17, 0x00, 0x01, 0x0c, 0x03, 0, 0, 0, 0, 0x01, 0x00, 0x00, 0x00, 0xfe,
+                    0xff, 0xff, 0xff, 1, 2, 3, 4, 0xfe, 0xff, 0xff, 0xff,
+                ],
+            ),
+            (
+                &AddressSpace::new_memory(
+                    AddressSpaceCacheable::PreFetchable,
+                    false,
+                    0x8_0000_0000u64,
+                    0xf_ffff_ffff,
+                    None,
+                ),
+                &[
+                    0x8a, 0x2b, 0x00, 0x00, 0x0c, 0x06, 0, 0, 0, 0, 0, 0, 0, 0, 0, 0, 0, 0, 0x08,
+                    0, 0, 0, 0xff, 0xff, 0xff, 0xff, 0x0f, 0, 0, 0, 0, 0, 0, 0, 0, 0, 0, 0, 0, 0,
+                    0, 0, 0x08, 0, 0, 0,
+                ],
+            ),
+            (
+                &AddressSpace::new_io(0x1_0000u64, 0x1_ffff, Some(0x1234_5678_9abc_def0)),
+                &[
+                    0x8a, 0x2b, 0x00, 0x01, 0x0c, 0x03, 0, 0, 0, 0, 0, 0, 0, 0, 0, 0, 0x01, 0, 0,
+                    0, 0, 0, 0xff, 0xff, 0x01, 0, 0, 0, 0, 0, 0xf0, 0xde, 0xbc, 0x9a, 0x78, 0x56,
+                    0x34, 0x12, 0, 0, 0x01, 0, 0, 0, 0, 0,
+                ],
+            ),
         ],
     )
 }

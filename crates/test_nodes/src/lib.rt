@@ -5,8 +5,6 @@
 #[cfg(test)]
 mod arm;
 #[cfg(test)]
-mod flags;
-#[cfg(test)]
 mod later_offsets;
 #[cfg(test)]
 mod matrices;

@@ -3,6 +3,5 @@
 pub mod hmat;
 mod large;
 pub mod localities;
-mod numbers;
 mod side_caches;
 mod slit;

@@ -8,7 +8,7 @@ use acpi_tables::pptt::{
 use std::alloc::Global;
 use std::test::Fail;
 use test_support::table::many;
-use test_support::{OEM, OEM_REVISION, OEM_TABLE, equal, refuses, writes};
+use test_support::{OEM, OEM_REVISION, OEM_TABLE, all, equal, makes, refuses, writes};
 
 pub(crate) fn table(alloc: Global) -> PPTT {
     PPTT::new(alloc, OEM, OEM_TABLE, OEM_REVISION)
@@ -22,35 +22,17 @@ pub(crate) fn processor(alloc: Global) -> ProcessorNode {
     ProcessorNode::new(alloc, None, 0x0403_0201)
 }
 
-// Fails unless a table has these bytes.
-fn is(alloc: Global, table: PPTT, wanted: &[u8]) -> Result<(), Fail> {
-    writes(alloc, &table, wanted)
-}
-
-// Fails unless a table is its header and these nodes this many times.
-fn holds(alloc: Global, table: PPTT, nodes: &[u8], times: u32) -> Result<(), Fail> {
-    many(alloc, &table, b"PPTT", 3, &[], nodes, times)
-}
-
 #[test]
 fn a_table_without_nodes(rt: HostRuntime) -> Result<(), Fail> {
-    is(
+    writes(
         rt.alloc(),
-        table(rt.alloc()),
+        &table(rt.alloc()),
         b"PPTT\x24\0\0\0\x03\x45FOOBARCAFEDEAD\xef\xbe\xad\xdeRVAT\0\0\0\x01",
     )
 }
 
 fn add_cache(table: &mut PPTT) -> R<CacheHandle> {
     table.add_cache(cache().size(0x8000).line_size(64).to_node())
-}
-
-#[test]
-fn a_table_of_a_cache(rt: HostRuntime) -> Result<(), Fail> {
-    let mut table = table(rt.alloc());
-    add_cache(&mut table)?;
-    let node = b"\x01\x1c\0\0\x41\0\0\0\0\0\0\0\0\x80\0\0\0\0\0\0\0\0\x40\0\0\0\0\0";
-    holds(rt.alloc(), table, node, 1)
 }
 
 // A processor that refers to these caches.
@@ -71,9 +53,9 @@ fn add_cache_and_processor(alloc: Global, table: &mut PPTT) -> R<ProcessorHandle
 fn a_table_of_a_cache_and_a_processor(rt: HostRuntime) -> Result<(), Fail> {
     let mut table = table(rt.alloc());
     add_cache_and_processor(rt.alloc(), &mut table)?;
-    is(
+    writes(
         rt.alloc(),
-        table,
+        &table,
         b"PPTT\x58\0\0\0\x03\xafFOOBARCAFEDEAD\xef\xbe\xad\xdeRVAT\0\0\0\x01\
             \x01\x1c\0\0\x41\0\0\0\0\0\0\0\0\x80\0\0\
             \0\0\0\0\0\0\x40\0\0\0\0\0\
@@ -149,12 +131,7 @@ fn handles(rt: HostRuntime) -> Result<(), Fail> {
 \x01\x1c\0\0\x10\0\0\0\x24\0\0\0\0\0\0\0\0\0\0\0\0\x04\0\0\0\0\0\0\
 \0\x1c\0\0\x0a\0\0\0\x40\0\0\0\x07\0\0\0\x02\0\0\0\x58\0\0\0\x24\0\0\0\
 \0\x14\0\0\x04\0\0\0\x74\0\0\0\x08\0\0\0\0\0\0\0";
-    holds(rt.alloc(), table, nodes, 1)
-}
-
-// Fails unless a processor has these bytes.
-fn node(alloc: Global, node: ProcessorNode, wanted: &[u8]) -> Result<(), Fail> {
-    writes(alloc, &node, wanted)
+    many(rt.alloc(), &table, b"PPTT", 3, &[], nodes, 1)
 }
 
 // A call that sets a flag of a processor.
@@ -185,7 +162,7 @@ fn flagged(alloc: Global, calls: &[Flag], number: u8) -> Result<(), Fail> {
     }
     let mut wanted = *b"\0\x14\0\0\0\0\0\0\0\0\0\0\x01\x02\x03\x04\0\0\0\0";
     wanted[4] = number;
-    node(alloc, made, &wanted)
+    writes(alloc, &made, &wanted)
 }
 
 // Each flag alone, set twice, and after others.
@@ -232,28 +209,23 @@ fn flags_of_processors(rt: HostRuntime) -> Result<(), Fail> {
     Ok(())
 }
 
-#[test]
-fn fields_of_a_processor(rt: HostRuntime) -> Result<(), Fail> {
-    let made = processor(rt.alloc()).valid();
+// Fails unless a processor has these fields, and those that are set over them.
+fn sets_fields(alloc: Global, made: &mut ProcessorNode) -> Result<(), Fail> {
     let fields = (made.flags, made.parent, made.acpi_processor_id);
-    equal(&fields, &(2, 0, 0x0403_0201))
-}
-
-fn with_set_fields(alloc: Global) -> ProcessorNode {
-    let mut made = processor(alloc).valid();
+    equal(&fields, &(2, 0, 0x0403_0201))?;
     made.flags = 0x1413_1211;
     made.parent = 0x2423_2221;
     made.acpi_processor_id = u32::MAX;
-    made
+    writes(
+        alloc,
+        made,
+        b"\0\x14\0\0\x11\x12\x13\x14\x21\x22\x23\x24\xff\xff\xff\xff\0\0\0\0",
+    )
 }
 
 #[test]
-fn set_fields_of_a_processor(rt: HostRuntime) -> Result<(), Fail> {
-    node(
-        rt.alloc(),
-        with_set_fields(rt.alloc()),
-        b"\0\x14\0\0\x11\x12\x13\x14\x21\x22\x23\x24\xff\xff\xff\xff\0\0\0\0",
-    )
+fn fields_of_a_processor(rt: HostRuntime) -> Result<(), Fail> {
+    sets_fields(rt.alloc(), &mut processor(rt.alloc()).valid())
 }
 
 fn with_most_caches(alloc: Global, cache: CacheHandle) -> R<ProcessorNode> {
@@ -271,7 +243,7 @@ fn most_caches() -> [u8; 252] {
 
 // A processor with the most caches has these bytes, and one with more can't be made.
 fn has_most_caches(alloc: Global, cache: CacheHandle) -> Result<(), Fail> {
-    node(alloc, with_most_caches(alloc, cache)?, &most_caches())?;
+    makes(alloc, with_most_caches(alloc, cache), &most_caches())?;
     let more = with_most_caches(alloc, cache)?.add_cache(&cache);
     refuses(more, Error::FieldWidth)
 }
@@ -292,161 +264,58 @@ fn the_most_caches(rt: HostRuntime) -> Result<(), Fail> {
 }
 
 #[test]
-fn sizes_of_caches() -> Result<(), Fail> {
-    equal(&CacheNode::len(), &28)
-}
-
-#[test]
+#[rattlefmt::skip]
 fn fields_of_caches(rt: HostRuntime) -> Result<(), Fail> {
+    equal(&CacheNode::len(), &28)?;
     let next = first_cache(rt.alloc())?;
-    for (made, wanted) in &[
-        (
-            cache().to_node(),
-            b"\x01\x1c\0\0\0\0\0\0\0\0\0\0\0\0\0\0\0\0\0\0\0\0\0\0\0\0\0\0",
-        ),
-        (
-            cache().next_level(&next).to_node(),
-            b"\x01\x1c\0\0\0\0\0\0\x24\0\0\0\0\0\0\0\0\0\0\0\0\0\0\0\0\0\0\0",
-        ),
-        (
-            cache().size(0x0403_0201).to_node(),
-            b"\x01\x1c\0\0\x01\0\0\0\0\0\0\0\x01\x02\x03\x04\0\0\0\0\0\0\0\0\0\0\0\0",
-        ),
-        (
-            cache().sets(0x0403_0201).to_node(),
-            b"\x01\x1c\0\0\x02\0\0\0\0\0\0\0\0\0\0\0\x01\x02\x03\x04\0\0\0\0\0\0\0\0",
-        ),
-        (
-            cache().associativity(0x51).to_node(),
-            b"\x01\x1c\0\0\x04\0\0\0\0\0\0\0\0\0\0\0\0\0\0\0\x51\0\0\0\0\0\0\0",
-        ),
-        (
-            cache().line_size(0x0201).to_node(),
-            b"\x01\x1c\0\0\x40\0\0\0\0\0\0\0\0\0\0\0\0\0\0\0\0\0\x01\x02\0\0\0\0",
-        ),
-        (
-            cache().id(0x0403_0201).to_node(),
-            b"\x01\x1c\0\0\x80\0\0\0\0\0\0\0\0\0\0\0\0\0\0\0\0\0\0\0\x01\x02\x03\x04",
-        ),
-    ] {
-        writes(rt.alloc(), made, *wanted)?;
-    }
-    Ok(())
-}
-
-// Fails unless a cache writes these bytes.
-fn built(alloc: Global, cache: CacheNodeBuilder, wanted: &[u8; 28]) -> Result<(), Fail> {
-    writes(alloc, &cache.to_node(), wanted)
-}
-
-#[test]
-fn all_fields_of_a_cache(rt: HostRuntime) -> Result<(), Fail> {
-    let full = cache()
-        .next_level(&first_cache(rt.alloc())?)
-        .size(0x0403_0201)
-        .sets(0x1413_1211)
-        .associativity(0x21)
-        .allocation_type(AllocationType::Both)
-        .cache_type(CacheType::Unified)
-        .write_policy(WritePolicy::Writethrough)
-        .line_size(0x3231)
-        .id(0x4443_4241);
-    built(
-        rt.alloc(),
-        full,
-        b"\x01\x1c\0\0\xff\0\0\0\x24\0\0\0\x01\x02\x03\x04\x11\x12\x13\x14\x21\x1a\x31\x32\x41\x42\x43\x44",
-    )
-}
-
-#[test]
-fn highest_fields_of_a_cache(rt: HostRuntime) -> Result<(), Fail> {
-    let highest = cache()
-        .size(u32::MAX)
-        .sets(u32::MAX)
-        .associativity(u8::MAX)
-        .line_size(u16::MAX)
-        .id(u32::MAX);
-    built(
-        rt.alloc(),
-        highest.size(7),
-        b"\x01\x1c\0\0\xc7\0\0\0\0\0\0\0\x07\0\0\0\xff\xff\xff\xff\xff\0\xff\xff\xff\xff\xff\xff",
-    )
-}
-
-// Fails unless a cache has these flags and attributes, at offsets 4 and 21.
-fn described(
-    alloc: Global,
-    cache: CacheNodeBuilder,
-    flags: u8,
-    attributes: u8,
-) -> Result<(), Fail> {
-    let mut wanted = [0; 28];
-    wanted[0] = 1;
-    wanted[1] = 28;
-    wanted[4] = flags;
-    wanted[21] = attributes;
-    writes(alloc, &cache.to_node(), &wanted)
-}
-
-#[test]
-fn attributes(rt: HostRuntime) -> Result<(), Fail> {
-    for (kind, attributes) in [
-        (AllocationType::Read, 0),
-        (AllocationType::Write, 1),
-        (AllocationType::Both, 2),
-    ] {
-        described(rt.alloc(), cache().allocation_type(kind), 8, attributes)?;
-    }
-    for (kind, attributes) in [
-        (CacheType::Data, 0),
-        (CacheType::Instruction, 4),
-        (CacheType::Unified, 8),
-    ] {
-        described(rt.alloc(), cache().cache_type(kind), 16, attributes)?;
-    }
-    for (policy, attributes) in [(WritePolicy::Writeback, 0), (WritePolicy::Writethrough, 16)] {
-        described(rt.alloc(), cache().write_policy(policy), 32, attributes)?;
-    }
-    Ok(())
-}
-
-// Each call joins its attributes to those that are set.
-#[test]
-fn joined_attributes(rt: HostRuntime) -> Result<(), Fail> {
-    let joined = cache()
-        .write_policy(WritePolicy::Writethrough)
-        .cache_type(CacheType::Instruction)
-        .allocation_type(AllocationType::Write)
-        .allocation_type(AllocationType::Both)
-        .cache_type(CacheType::Data);
-    described(rt.alloc(), joined, 56, 23)
-}
-
-#[test]
-fn attributes_are_compared() -> Result<(), Fail> {
-    equal(&(AllocationType::Write != AllocationType::Both), &true)?;
-    equal(&(CacheType::Unified == CacheType::Unified), &true)?;
-    let differ = WritePolicy::Writeback != WritePolicy::Writethrough;
-    equal(&differ, &true)
-}
-
-#[test]
-fn many_processors(rt: HostRuntime) -> Result<(), Fail> {
-    let mut table = table(rt.alloc());
-    for _ in 0..256u16 {
-        table.add_processor(processor(rt.alloc()).leaf())?;
-    }
-    let node = b"\0\x14\0\0\x08\0\0\0\0\0\0\0\x01\x02\x03\x04\0\0\0\0";
-    holds(rt.alloc(), table, node, 256)
-}
-
-#[test]
-fn many_caches(rt: HostRuntime) -> Result<(), Fail> {
-    let mut table = table(rt.alloc());
-    let node = cache().id(3).to_node();
-    for _ in 0..256u16 {
-        table.add_cache(node)?;
-    }
-    let node = b"\x01\x1c\0\0\x80\0\0\0\0\0\0\0\0\0\0\0\0\0\0\0\0\0\0\0\x03\0\0\0";
-    holds(rt.alloc(), table, node, 256)
+    all(rt.alloc(), &[
+        (&cache().to_node(),
+            b"\x01\x1c\0\0\0\0\0\0\0\0\0\0\0\0\0\0\0\0\0\0\0\0\0\0\0\0\0\0"),
+        (&cache().next_level(&next).to_node(),
+            b"\x01\x1c\0\0\0\0\0\0\x24\0\0\0\0\0\0\0\0\0\0\0\0\0\0\0\0\0\0\0"),
+        (&cache().size(0x0403_0201).to_node(),
+            b"\x01\x1c\0\0\x01\0\0\0\0\0\0\0\x01\x02\x03\x04\0\0\0\0\0\0\0\0\0\0\0\0"),
+        (&cache().sets(0x0403_0201).to_node(),
+            b"\x01\x1c\0\0\x02\0\0\0\0\0\0\0\0\0\0\0\x01\x02\x03\x04\0\0\0\0\0\0\0\0"),
+        (&cache().associativity(0x51).to_node(),
+            b"\x01\x1c\0\0\x04\0\0\0\0\0\0\0\0\0\0\0\0\0\0\0\x51\0\0\0\0\0\0\0"),
+        (&cache().line_size(0x0201).to_node(),
+            b"\x01\x1c\0\0\x40\0\0\0\0\0\0\0\0\0\0\0\0\0\0\0\0\0\x01\x02\0\0\0\0"),
+        (&cache().id(0x0403_0201).to_node(),
+            b"\x01\x1c\0\0\x80\0\0\0\0\0\0\0\0\0\0\0\0\0\0\0\0\0\0\0\x01\x02\x03\x04"),
+        (&cache().allocation_type(AllocationType::Read).to_node(),
+            b"\x01\x1c\0\0\x08\0\0\0\0\0\0\0\0\0\0\0\0\0\0\0\0\0\0\0\0\0\0\0"),
+        (&cache().allocation_type(AllocationType::Write).to_node(),
+            b"\x01\x1c\0\0\x08\0\0\0\0\0\0\0\0\0\0\0\0\0\0\0\0\x01\0\0\0\0\0\0"),
+        (&cache().allocation_type(AllocationType::Both).to_node(),
+            b"\x01\x1c\0\0\x08\0\0\0\0\0\0\0\0\0\0\0\0\0\0\0\0\x02\0\0\0\0\0\0"),
+        (&cache().cache_type(CacheType::Data).to_node(),
+            b"\x01\x1c\0\0\x10\0\0\0\0\0\0\0\0\0\0\0\0\0\0\0\0\0\0\0\0\0\0\0"),
+        (&cache().cache_type(CacheType::Instruction).to_node(),
+            b"\x01\x1c\0\0\x10\0\0\0\0\0\0\0\0\0\0\0\0\0\0\0\0\x04\0\0\0\0\0\0"),
+        (&cache().cache_type(CacheType::Unified).to_node(),
+            b"\x01\x1c\0\0\x10\0\0\0\0\0\0\0\0\0\0\0\0\0\0\0\0\x08\0\0\0\0\0\0"),
+        (&cache().write_policy(WritePolicy::Writeback).to_node(),
+            b"\x01\x1c\0\0\x20\0\0\0\0\0\0\0\0\0\0\0\0\0\0\0\0\0\0\0\0\0\0\0"),
+        (&cache().write_policy(WritePolicy::Writethrough).to_node(),
+            b"\x01\x1c\0\0\x20\0\0\0\0\0\0\0\0\0\0\0\0\0\0\0\0\x10\0\0\0\0\0\0"),
+        // each field
+        (&cache().next_level(&next).size(0x0403_0201).sets(0x1413_1211).associativity(0x21).allocation_type(AllocationType::Both)
+            .cache_type(CacheType::Unified).write_policy(WritePolicy::Writethrough).line_size(0x3231).id(0x4443_4241).to_node(),
+            b"\x01\x1c\0\0\xff\0\0\0\x24\0\0\0\x01\x02\x03\x04\x11\x12\x13\x14\x21\x1a\x31\x32\x41\x42\x43\x44"),
+        // the highest numbers, and one that is set again
+        (&cache().size(u32::MAX).sets(u32::MAX).associativity(u8::MAX).line_size(u16::MAX).id(u32::MAX).size(7).to_node(),
+            b"\x01\x1c\0\0\xc7\0\0\0\0\0\0\0\x07\0\0\0\xff\xff\xff\xff\xff\0\xff\xff\xff\xff\xff\xff"),
+        // Each call joins its attributes to those that are set.
+        (&cache().write_policy(WritePolicy::Writethrough).cache_type(CacheType::Instruction)
+            .allocation_type(AllocationType::Write).allocation_type(AllocationType::Both).cache_type(CacheType::Data).to_node(),
+            b"\x01\x1c\0\0\x38\0\0\0\0\0\0\0\0\0\0\0\0\0\0\0\0\x17\0\0\0\0\0\0"),
+        // each field but the next level, set twice and after others
+        (&cache().id(7).id(0x4443_4241).line_size(7).line_size(0x3231)
+            .write_policy(WritePolicy::Writethrough).write_policy(WritePolicy::Writethrough)
+            .cache_type(CacheType::Unified).cache_type(CacheType::Unified)
+            .allocation_type(AllocationType::Both).allocation_type(AllocationType::Both)
+            .associativity(7).associativity(0x21).sets(7).sets(0x1413_1211).size(7).size(0x0403_0201).to_node(),
+            b"\x01\x1c\0\0\xff\0\0\0\0\0\0\0\x01\x02\x03\x04\x11\x12\x13\x14\x21\x1a\x31\x32\x41\x42\x43\x44"),
+    ])
 }

@@ -16,41 +16,21 @@ fn table(alloc: Global) -> RHCT {
     RHCT::new(alloc, OEM, OEM_TABLE, OEM_REVISION, 0x0807_0605_0403_0201)
 }
 
-// Fails unless a table has these bytes.
-fn is(alloc: Global, table: RHCT, wanted: &[u8]) -> Result<(), Fail> {
-    writes(alloc, &table, wanted)
-}
-
-// Fails unless the table is the fixed fields with this number of nodes, and these nodes this many times.
-fn holds(
-    alloc: Global,
-    table: RHCT,
-    number: [u8; 2],
-    nodes: &[u8],
-    times: u32,
-) -> Result<(), Fail> {
+// Fails unless a table is the fixed fields with this number of nodes, and these nodes.
+fn holds(alloc: Global, table: RHCT, number: u8, nodes: &[u8]) -> Result<(), Fail> {
     let mut fixed = *b"\0\0\0\0\x01\x02\x03\x04\x05\x06\x07\x08\0\0\0\0\x38\0\0\0";
-    fixed[12] = number[0];
-    fixed[13] = number[1];
-    many(alloc, &table, b"RHCT", 1, &fixed, nodes, times)
+    fixed[12] = number;
+    many(alloc, &table, b"RHCT", 1, &fixed, nodes, 1)
 }
 
 #[test]
 fn a_table_without_nodes(rt: HostRuntime) -> Result<(), Fail> {
-    is(
+    writes(
         rt.alloc(),
-        table(rt.alloc()),
+        &table(rt.alloc()),
         b"RHCT\x38\0\0\0\x01\xeeFOOBARCAFEDEAD\xef\xbe\xad\xdeRVAT\0\0\0\x01\
             \0\0\0\0\x01\x02\x03\x04\x05\x06\x07\x08\0\0\0\0\x38\0\0\0",
     )
-}
-
-#[test]
-fn a_table_of_a_string(rt: HostRuntime) -> Result<(), Fail> {
-    let mut table = table(rt.alloc());
-    table.add_isa_string("foobar")?;
-    let node = b"\0\0\x10\0\x01\0\x07\0foobar\0\0";
-    holds(rt.alloc(), table, [1, 0], node, 1)
 }
 
 // A hart of this number, this ISA string and these block sizes.
@@ -76,28 +56,14 @@ fn add_hart(alloc: Global, table: &mut RHCT) -> R<()> {
 fn a_table_of_a_string_and_a_hart(rt: HostRuntime) -> Result<(), Fail> {
     let mut table = table(rt.alloc());
     add_hart(rt.alloc(), &mut table)?;
-    is(
+    writes(
         rt.alloc(),
-        table,
+        &table,
         b"RHCT\x58\0\0\0\x01\xf0FOOBARCAFEDEAD\xef\xbe\xad\xdeRVAT\0\0\0\x01\
             \0\0\0\0\x01\x02\x03\x04\x05\x06\x07\x08\x02\0\0\0\x38\0\0\0\
             \0\0\x10\0\x01\0\x07\0foobar\0\0\
             \xff\xff\x10\0\x01\0\x01\0\x03\0\0\0\x38\0\0\0",
     )
-}
-
-fn add_made_text(alloc: Global, table: &mut RHCT) -> R<IsaStringHandle> {
-    let mut text = String::from_str(alloc, "rv64")?;
-    text.push('i')?;
-    table.add_isa_string(&text)
-}
-
-#[test]
-fn a_text_made_at_run_time(rt: HostRuntime) -> Result<(), Fail> {
-    let mut table = table(rt.alloc());
-    add_made_text(rt.alloc(), &mut table)?;
-    let node = b"\0\0\x0e\0\x01\0\x06\0rv64i\0";
-    holds(rt.alloc(), table, [1, 0], node, 1)
 }
 
 // Adds a string of 14 bytes and block sizes, and returns their handles.
@@ -139,12 +105,13 @@ fn add_others(table: &mut RHCT) -> R<(IsaStringHandle, CmoHandle)> {
     Ok((string, blocks))
 }
 
-// Adds two harts, each with its own string and block sizes.
+// Adds two harts, each with its own string and block sizes, and another scheme.
 fn add_two_harts(alloc: Global, table: &mut RHCT) -> R<()> {
     let (first, blocks) = add_both(table)?;
     let (second, others) = add_others(table)?;
     table.add_hart_info(hart(alloc, 0x0403_0201, &second, &[others, blocks])?)?;
-    table.add_hart_info(hart(alloc, u32::MAX, &first, &[blocks])?)
+    table.add_hart_info(hart(alloc, u32::MAX, &first, &[blocks])?)?;
+    table.add_mmu_node(VirtualAddressScheme::Sv39)
 }
 
 #[test]
@@ -157,8 +124,9 @@ fn handles(rt: HostRuntime) -> Result<(), Fail> {
 \0\0\x0e\0\x01\0\x05\0rv64\0\0\
 \x01\0\x0a\0\x01\0\0\x09\x0a\x0b\
 \xff\xff\x18\0\x01\0\x03\0\x01\x02\x03\x04\x58\0\0\0\x66\0\0\0\x46\0\0\0\
-\xff\xff\x14\0\x01\0\x02\0\xff\xff\xff\xff\x38\0\0\0\x46\0\0\0";
-    holds(rt.alloc(), table, [7, 0], nodes, 1)
+\xff\xff\x14\0\x01\0\x02\0\xff\xff\xff\xff\x38\0\0\0\x46\0\0\0\
+\x02\0\x08\0\x01\0\0\0";
+    holds(rt.alloc(), table, 8, nodes)
 }
 
 #[test]
@@ -200,7 +168,7 @@ fn longest_node(alloc: Global) -> R<Vec<u8>> {
 fn longest_isa_string(rt: HostRuntime) -> Result<(), Fail> {
     let mut table = table(rt.alloc());
     takes_longest(rt.alloc(), &mut table)?;
-    holds(rt.alloc(), table, [1, 0], &longest_node(rt.alloc())?, 1)
+    holds(rt.alloc(), table, 1, &longest_node(rt.alloc())?)
 }
 
 #[test]
@@ -227,15 +195,6 @@ fn block_sizes_and_schemes(rt: HostRuntime) -> Result<(), Fail> {
             ),
         ],
     )
-}
-
-#[test]
-fn a_table_of_two_schemes(rt: HostRuntime) -> Result<(), Fail> {
-    let mut table = table(rt.alloc());
-    table.add_mmu_node(VirtualAddressScheme::Sv39)?;
-    table.add_mmu_node(VirtualAddressScheme::Sv57)?;
-    let nodes = b"\x02\0\x08\0\x01\0\0\0\x02\0\x08\0\x01\0\0\x02";
-    holds(rt.alloc(), table, [2, 0], nodes, 1)
 }
 
 // A hart of a string and of 16,379 block sizes, which are as many as it can have.
@@ -267,50 +226,4 @@ fn most_offsets(rt: HostRuntime) -> Result<(), Fail> {
 \x01\0\x0a\0\x01\0\0\x04\x05\x06\
 \xff\xff\xfc\xff\x01\0\xfc\x3f\x07\0\0\0\x38\0\0\0";
     many(rt.alloc(), &table, b"RHCT", 1, fixed, b"\x44\0\0\0", 16379)
-}
-
-#[test]
-fn many_strings(rt: HostRuntime) -> Result<(), Fail> {
-    let mut table = table(rt.alloc());
-    for _ in 0..256u16 {
-        table.add_isa_string("abc")?;
-    }
-    let node = b"\0\0\x0c\0\x01\0\x04\0abc\0";
-    holds(rt.alloc(), table, [0, 1], node, 256)
-}
-
-#[test]
-fn many_block_sizes(rt: HostRuntime) -> Result<(), Fail> {
-    let mut table = table(rt.alloc());
-    for _ in 0..256u16 {
-        table.add_cmo(CmoNode::new(1, 2, 3))?;
-    }
-    let node = b"\x01\0\x0a\0\x01\0\0\x01\x02\x03";
-    holds(rt.alloc(), table, [0, 1], node, 256)
-}
-
-#[test]
-fn many_schemes(rt: HostRuntime) -> Result<(), Fail> {
-    let mut table = table(rt.alloc());
-    for _ in 0..256u16 {
-        table.add_mmu_node(VirtualAddressScheme::Sv57)?;
-    }
-    let node = b"\x02\0\x08\0\x01\0\0\x02";
-    holds(rt.alloc(), table, [0, 1], node, 256)
-}
-
-fn add_harts(alloc: Global, table: &mut RHCT, string: &IsaStringHandle) -> R<()> {
-    for _ in 0..300u16 {
-        table.add_hart_info(hart(alloc, 9, string, &[])?)?;
-    }
-    Ok(())
-}
-
-#[test]
-fn many_harts(rt: HostRuntime) -> Result<(), Fail> {
-    let string = table(rt.alloc()).add_isa_string("a")?;
-    let mut table = table(rt.alloc());
-    add_harts(rt.alloc(), &mut table, &string)?;
-    let node = b"\xff\xff\x10\0\x01\0\x01\0\x09\0\0\0\x38\0\0\0";
-    holds(rt.alloc(), table, [0x2c, 1], node, 300)
 }

@@ -6,8 +6,7 @@ use acpi_tables::rimt::{
 };
 use std::alloc::Global;
 use std::test::Fail;
-use test_support::table::{many, stands};
-use test_support::{OEM, OEM_REVISION, OEM_TABLE, writes};
+use test_support::{OEM, OEM_REVISION, OEM_TABLE, all, makes, writes};
 
 // An IOMMU of zeros without wires.
 const PLAIN_IOMMU: [u8; 32] =
@@ -78,16 +77,11 @@ pub(crate) fn name(alloc: Global, count: u32) -> R<String> {
     Ok(name)
 }
 
-// Fails unless a table has these bytes.
-fn is(alloc: Global, table: RIMT, wanted: &[u8]) -> Result<(), Fail> {
-    writes(alloc, &table, wanted)
-}
-
 #[test]
 fn a_table_without_devices(rt: HostRuntime) -> Result<(), Fail> {
-    is(
+    writes(
         rt.alloc(),
-        table(rt.alloc()),
+        &table(rt.alloc()),
         b"RIMT\x30\0\0\0\x01\x17FOOBARCAFEDEAD\xef\xbe\xad\xdeRVAT\0\0\0\x01\0\0\0\0\x30\0\0\0\0\0\0\0",
     )
 }
@@ -113,9 +107,9 @@ fn add_root_complex(alloc: Global, table: &mut RIMT) -> R<()> {
 fn a_root_complex(rt: HostRuntime) -> Result<(), Fail> {
     let mut table = table(rt.alloc());
     add_root_complex(rt.alloc(), &mut table)?;
-    is(
+    writes(
         rt.alloc(),
-        table,
+        &table,
         b"RIMT\xa8\0\0\0\x01\xf2FOOBARCAFEDEAD\xef\xbe\xad\xdeRVAT\0\0\0\x01\
             \x02\0\0\0\x30\0\0\0\0\0\0\0\
             \0\x01\x40\0\x01\0\0\0\0\0\0\0\0\0\0\0\
@@ -138,9 +132,9 @@ fn add_platform(alloc: Global, table: &mut RIMT) -> R<()> {
 fn a_platform_device(rt: HostRuntime) -> Result<(), Fail> {
     let mut table = table(rt.alloc());
     add_platform(rt.alloc(), &mut table)?;
-    is(
+    writes(
         rt.alloc(),
-        table,
+        &table,
         b"RIMT\xb8\0\0\0\x01\xc3FOOBARCAFEDEAD\xef\xbe\xad\xdeRVAT\0\0\0\x01\
             \x02\0\0\0\x30\0\0\0\0\0\0\0\
             \0\x01\x40\0\x01\0\0\0\0\x10\0\0\0\0\0\0\
@@ -155,135 +149,71 @@ fn a_platform_device(rt: HostRuntime) -> Result<(), Fail> {
 }
 
 #[test]
-fn interrupt_wires(rt: HostRuntime) -> Result<(), Fail> {
-    let rows: [(u32, bool, bool, u16, &[u8]); 4] = [
-        (
-            u32::MAX,
-            true,
-            true,
-            u16::MAX,
-            b"\xff\xff\xff\xff\x03\0\xff\xff",
-        ),
-        (0, false, false, 0, b"\0\0\0\0\0\0\0\0"),
-        (
-            0x0403_0201,
-            true,
-            false,
-            0x0605,
-            b"\x01\x02\x03\x04\x01\0\x05\x06",
-        ),
-        (
-            0x0403_0201,
-            false,
-            true,
-            0x0605,
-            b"\x01\x02\x03\x04\x02\0\x05\x06",
-        ),
-    ];
-    for (number, level, high, aplic, wanted) in rows {
-        let wire = InterruptWire::new(number, level, high, aplic);
-        writes(rt.alloc(), &wire, wanted)?;
-    }
-    Ok(())
-}
-
-fn mapping_is(alloc: Global, made: IdMapping, wanted: &[u8; 20]) -> Result<(), Fail> {
-    writes(alloc, &made, wanted)
+#[rattlefmt::skip]
+fn wires_and_mappings(rt: HostRuntime) -> Result<(), Fail> {
+    let to = first_offset(rt.alloc())?;
+    all(rt.alloc(), &[
+        (&InterruptWire::new(u32::MAX, true, true, u16::MAX), b"\xff\xff\xff\xff\x03\0\xff\xff"),
+        (&InterruptWire::new(0, false, false, 0), b"\0\0\0\0\0\0\0\0"),
+        (&InterruptWire::new(0x0403_0201, true, false, 0x0605), b"\x01\x02\x03\x04\x01\0\x05\x06"),
+        (&InterruptWire::new(0x0403_0201, false, true, 0x0605), b"\x01\x02\x03\x04\x02\0\x05\x06"),
+        (&IdMapping::new(0, 0, 0, to, false, false, false), b"\0\0\0\0\0\0\0\0\0\0\0\0\x30\0\0\0\0\0\0\0"),
+        (&IdMapping::new(0, 0, 0, to, true, false, false), b"\0\0\0\0\0\0\0\0\0\0\0\0\x30\0\0\0\x01\0\0\0"),
+        (&IdMapping::new(0, 0, 0, to, false, true, false), b"\0\0\0\0\0\0\0\0\0\0\0\0\x30\0\0\0\x02\0\0\0"),
+        (&IdMapping::new(0, 0, 0, to, false, false, true), b"\0\0\0\0\0\0\0\0\0\0\0\0\x30\0\0\0\x04\0\0\0"),
+        (&IdMapping::new(0, 0, 0, to, true, false, true), b"\0\0\0\0\0\0\0\0\0\0\0\0\x30\0\0\0\x05\0\0\0"),
+        (&IdMapping::new(0, 0, 0, to, false, true, true), b"\0\0\0\0\0\0\0\0\0\0\0\0\x30\0\0\0\x06\0\0\0"),
+        (&IdMapping::new(u32::MAX, u32::MAX, u32::MAX, to, true, true, true),
+            b"\xff\xff\xff\xff\xff\xff\xff\xff\xff\xff\xff\xff\x30\0\0\0\x07\0\0\0"),
+    ])
 }
 
 #[test]
-fn flags_of_mappings(rt: HostRuntime) -> Result<(), Fail> {
-    let offset = first_offset(rt.alloc())?;
-    for (ats, pri, rciep, flags) in [
-        (false, false, false, 0),
-        (true, false, false, 1),
-        (false, true, false, 2),
-        (false, false, true, 4),
-        (true, false, true, 5),
-        (false, true, true, 6),
-    ] {
-        let mut wanted = *b"\0\0\0\0\0\0\0\0\0\0\0\0\x30\0\0\0\0\0\0\0";
-        wanted[16] = flags;
-        let made = IdMapping::new(0, 0, 0, offset, ats, pri, rciep);
-        mapping_is(rt.alloc(), made, &wanted)?;
-    }
-    Ok(())
-}
-
-#[test]
-fn the_highest_mapping(rt: HostRuntime) -> Result<(), Fail> {
-    let offset = first_offset(rt.alloc())?;
-    mapping_is(
-        rt.alloc(),
-        IdMapping::new(u32::MAX, u32::MAX, u32::MAX, offset, true, true, true),
-        b"\xff\xff\xff\xff\xff\xff\xff\xff\xff\xff\xff\xff\x30\0\0\0\x07\0\0\0",
-    )
-}
-
-// Fails unless an IOMMU has these bytes.
-pub(crate) fn iommu(alloc: Global, made: Iommu, wanted: &[u8]) -> Result<(), Fail> {
-    writes(alloc, &made, wanted)
-}
-
-#[test]
-fn iommus_of_zeros(rt: HostRuntime) -> Result<(), Fail> {
-    let alloc = rt.alloc();
-    iommu(alloc, Iommu::new(0, None, None, None, None), &PLAIN_IOMMU)?;
-    let empty = Some(Vec::new(alloc));
-    iommu(
-        alloc,
-        Iommu::new(0, Some(0), None, None, empty),
-        &PLAIN_IOMMU,
-    )?;
-    let mut wanted = PLAIN_IOMMU;
-    wanted[16] = 1;
+#[rattlefmt::skip]
+fn iommus_without_wires(rt: HostRuntime) -> Result<(), Fail> {
+    let empty = Some(Vec::new(rt.alloc()));
     let zero = Some(PciDevice::new(0, 0, 0, 0));
-    iommu(alloc, Iommu::new(0, None, zero, None, None), &wanted)?;
-    wanted[16] = 2;
-    iommu(alloc, Iommu::new(0, None, None, Some(0), None), &wanted)
+    let (base, device) = (Some(0x2827_2625_2423_2221), Some(PciDevice::new(0x1211, 0x13, 0x14, 5)));
+    all(rt.alloc(), &[
+        (&Iommu::new(0, None, None, None, None), &PLAIN_IOMMU),
+        (&Iommu::new(0, Some(0), None, None, empty), &PLAIN_IOMMU),
+        (&Iommu::new(0, None, zero, None, None), b"\0\x01\x20\0\0\0\0\0\0\0\0\0\0\0\0\0\x01\0\0\0\0\0\0\0\0\0\0\0\0\0\x20\0"),
+        (&Iommu::new(0, None, None, Some(0), None), b"\0\x01\x20\0\0\0\0\0\0\0\0\0\0\0\0\0\x02\0\0\0\0\0\0\0\0\0\0\0\0\0\x20\0"),
+        (&Iommu::new(0x0201, base, device, Some(0x3433_3231), None),
+            b"\0\x01\x20\0\x01\x02\0\0\x21\x22\x23\x24\x25\x26\x27\x28\x03\0\0\0\x11\x12\xa5\x13\x31\x32\x33\x34\0\0\x20\0"),
+    ])
 }
 
 #[test]
 fn the_highest_iommu(rt: HostRuntime) -> Result<(), Fail> {
     let device = Some(PciDevice::new(u16::MAX, 0xff, 31, 7));
     let wires = Some(wires(rt.alloc(), 1)?);
-    iommu(
+    writes(
         rt.alloc(),
-        Iommu::new(u16::MAX, Some(u64::MAX), device, Some(u32::MAX), wires),
+        &Iommu::new(u16::MAX, Some(u64::MAX), device, Some(u32::MAX), wires),
         b"\0\x01\x28\0\xff\xff\0\0\xff\xff\xff\xff\xff\xff\xff\xff\
             \x03\0\0\0\xff\xff\xff\xff\xff\xff\xff\xff\x01\0\x20\0\x01\x02\x03\x04\x02\0\x05\x06",
     )
-}
-
-#[test]
-fn fields_of_an_iommu(rt: HostRuntime) -> Result<(), Fail> {
-    let base = Some(0x2827_2625_2423_2221);
-    let device = Some(PciDevice::new(0x1211, 0x13, 0x14, 5));
-    iommu(
-        rt.alloc(),
-        Iommu::new(0x0201, base, device, Some(0x3433_3231), None),
-        b"\0\x01\x20\0\x01\x02\0\0\x21\x22\x23\x24\x25\x26\x27\x28\x03\0\0\0\x11\x12\xa5\x13\x31\x32\x33\x34\0\0\x20\0",
-    )
-}
-
-// Fails unless a root complex has these bytes.
-pub(crate) fn root_complex(
-    alloc: Global,
-    made: PcieRootComplex,
-    wanted: &[u8],
-) -> Result<(), Fail> {
-    writes(alloc, &made, wanted)
 }
 
 // Fails unless root complexes without mappings have these flags, at offset 8.
 fn flagged(alloc: Global, ats: bool, pri: bool, flags: u8) -> Result<(), Fail> {
     let mut wanted = *b"\x01\x01\x10\0\x01\x02\x03\x04\0\0\0\0\x10\0\0\0";
     wanted[8] = flags;
-    let plain = PcieRootComplex::new(0x0201, 0x0403, ats, pri, None);
-    root_complex(alloc, plain, &wanted)?;
     let empty = Some(Vec::new(alloc));
-    let empty = PcieRootComplex::new(0x0201, 0x0403, ats, pri, empty);
-    root_complex(alloc, empty, &wanted)
+    all(
+        alloc,
+        &[
+            (
+                &PcieRootComplex::new(0x0201, 0x0403, ats, pri, None),
+                &wanted,
+            ),
+            (
+                &PcieRootComplex::new(0x0201, 0x0403, ats, pri, empty),
+                &wanted,
+            ),
+        ],
+    )
 }
 
 #[test]
@@ -297,25 +227,11 @@ fn flags_of_root_complexes(rt: HostRuntime) -> Result<(), Fail> {
 #[test]
 fn the_highest_root_complex(rt: HostRuntime) -> Result<(), Fail> {
     let mappings = Some(mappings(rt.alloc(), 1)?);
-    root_complex(
+    writes(
         rt.alloc(),
-        PcieRootComplex::new(u16::MAX, u16::MAX, true, true, mappings),
+        &PcieRootComplex::new(u16::MAX, u16::MAX, true, true, mappings),
         b"\x01\x01\x24\0\xff\xff\xff\xff\x03\0\0\0\x10\0\x01\0\
             \x01\x02\x03\x04\x05\x06\x07\x08\x09\x0a\x0b\x0c\x30\0\0\0\x02\0\0\0",
-    )
-}
-
-// Fails unless a platform device has these bytes.
-pub(crate) fn platform(alloc: Global, made: Platform, wanted: &[u8]) -> Result<(), Fail> {
-    writes(alloc, &made, wanted)
-}
-
-#[test]
-fn a_platform_device_without_mappings(rt: HostRuntime) -> Result<(), Fail> {
-    platform(
-        rt.alloc(),
-        Platform::new(0x0201, String::new(rt.alloc()), None),
-        b"\x02\x01\x0d\0\x01\x02\0\0\x0d\0\0\0\0",
     )
 }
 
@@ -326,15 +242,20 @@ pub(crate) fn mapped(alloc: Global, id: u16, letters: u32, count: u16) -> R<Plat
 }
 
 #[test]
-fn mapped_platform_devices(rt: HostRuntime) -> Result<(), Fail> {
-    platform(
+fn platform_devices(rt: HostRuntime) -> Result<(), Fail> {
+    writes(
         rt.alloc(),
-        mapped(rt.alloc(), u16::MAX, 3, 0)?,
+        &Platform::new(0x0201, String::new(rt.alloc()), None),
+        b"\x02\x01\x0d\0\x01\x02\0\0\x0d\0\0\0\0",
+    )?;
+    makes(
+        rt.alloc(),
+        mapped(rt.alloc(), u16::MAX, 3, 0),
         b"\x02\x01\x10\0\xff\xff\0\0\x10\0\0\0nnn\0",
     )?;
-    platform(
+    makes(
         rt.alloc(),
-        mapped(rt.alloc(), 0, 1, 1)?,
+        mapped(rt.alloc(), 0, 1, 1),
         b"\x02\x01\x22\0\0\0\0\0\x0e\0\x01\0n\0\x01\x02\x03\x04\x05\x06\x07\x08\x09\x0a\x0b\x0c\x30\0\0\0\x02\0\0\0",
     )
 }
@@ -344,7 +265,7 @@ fn refers(alloc: Global, iommu: IommuOffset, offset: u8) -> Result<(), Fail> {
     let mut wanted = [0; 20];
     wanted[12] = offset;
     let made = IdMapping::new(0, 0, 0, iommu, false, false, false);
-    mapping_is(alloc, made, &wanted)
+    writes(alloc, &made, &wanted)
 }
 
 // Adds an IOMMU of 64 bytes and a platform device of 13.
@@ -365,23 +286,4 @@ fn offsets_are_told(alloc: Global, table: &mut RIMT) -> Result<(), Fail> {
 #[test]
 fn later_offsets(rt: HostRuntime) -> Result<(), Fail> {
     offsets_are_told(rt.alloc(), &mut table(rt.alloc()))
-}
-
-fn takes_devices(alloc: Global, table: &mut RIMT) -> Result<(), Fail> {
-    for _ in 0..256u16 {
-        let _ = add_plain_iommu(table)?;
-    }
-    stands(
-        alloc,
-        table,
-        0,
-        b"RIMT\x30\x20\0\0\x01\xf6FOOBARCAFEDEAD\xef\xbe\xad\xdeRVAT\0\0\0\x01\0\x01\0\0\x30\0\0\0\0\0\0\0",
-    )?;
-    let fixed = b"\0\x01\0\0\x30\0\0\0\0\0\0\0";
-    many(alloc, table, b"RIMT", 1, fixed, &PLAIN_IOMMU, 256)
-}
-
-#[test]
-fn devices_past_a_byte(rt: HostRuntime) -> Result<(), Fail> {
-    takes_devices(rt.alloc(), &mut table(rt.alloc()))
 }

@@ -1,13 +1,13 @@
 //! Devices of a RIMT of at most 65,535 bytes, and those that would be longer.
 
-use crate::rimt::{iommu, mapped, mappings, name, platform, root_complex, table, wires};
+use crate::rimt::{mapped, mappings, name, table, wires};
 use acpi_base::error::{Error, R};
 use acpi_base::object::Aml;
 use acpi_tables::rimt::{Iommu, PcieRootComplex, Platform, RIMT};
 use std::alloc::Global;
 use std::test::Fail;
 use test_support::table::many;
-use test_support::{equal, refuses, same};
+use test_support::{equal, makes, refuses, same};
 
 const WIRE: &[u8] = b"\x01\x02\x03\x04\x02\0\x05\x06";
 
@@ -43,7 +43,7 @@ fn wired(alloc: Global, count: u16) -> R<Iommu> {
 }
 
 fn takes_wired(alloc: Global, table: &mut RIMT, wanted: &[u8]) -> Result<(), Fail> {
-    iommu(alloc, wired(alloc, 8187)?, wanted)?;
+    makes(alloc, wired(alloc, 8187), wanted)?;
     let _ = table.add_iommu(wired(alloc, 8187)?)?;
     holds(alloc, table, wanted)
 }
@@ -71,7 +71,7 @@ fn with_mappings(alloc: Global, count: u16) -> R<PcieRootComplex> {
 }
 
 fn takes_mapped(alloc: Global, table: &mut RIMT, wanted: &[u8]) -> Result<(), Fail> {
-    root_complex(alloc, with_mappings(alloc, 3275)?, wanted)?;
+    makes(alloc, with_mappings(alloc, 3275), wanted)?;
     table.add_pcie_root_complex(with_mappings(alloc, 3275)?)?;
     holds(alloc, table, wanted)
 }
@@ -94,7 +94,7 @@ fn the_most_mappings(rt: HostRuntime) -> Result<(), Fail> {
 }
 
 fn takes_named(alloc: Global, table: &mut RIMT, wanted: &[u8]) -> Result<(), Fail> {
-    platform(alloc, mapped(alloc, 0x0201, 2, 3276)?, wanted)?;
+    makes(alloc, mapped(alloc, 0x0201, 2, 3276), wanted)?;
     table.add_platform(mapped(alloc, 0x0201, 2, 3276)?)?;
     holds(alloc, table, wanted)
 }
@@ -127,7 +127,7 @@ fn the_longest_name(rt: HostRuntime) -> Result<(), Fail> {
     let head = b"\x02\x01\xff\xff\x01\x02\0\0\xff\xff\0\0";
     let mut wanted = behind(rt.alloc(), head, b"n", 65_522)?;
     wanted.push(0)?;
-    platform(rt.alloc(), named(rt.alloc(), 65_522)?, &wanted)
+    makes(rt.alloc(), named(rt.alloc(), 65_522), &wanted)
 }
 
 #[test]

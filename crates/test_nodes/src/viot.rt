@@ -7,7 +7,7 @@ use acpi_tables::viot::{
 use std::alloc::Global;
 use std::test::Fail;
 use test_support::table::{many, stands};
-use test_support::{OEM, OEM_REVISION, OEM_TABLE, equal, refuses, writes};
+use test_support::{OEM, OEM_REVISION, OEM_TABLE, all, equal, refuses, writes};
 
 // A virtual IOMMU at address 0.
 const MMIO_IOMMU: [u8; 16] = *b"\x04\0\x10\0\0\0\0\0\0\0\0\0\0\0\0\0";
@@ -45,27 +45,12 @@ fn offsets(rt: HostRuntime) -> Result<(), Fail> {
     offsets_are_told(&mut table(rt.alloc()))
 }
 
-// Fails unless a table has these bytes.
-fn is(alloc: Global, table: VIOT, wanted: &[u8]) -> Result<(), Fail> {
-    writes(alloc, &table, wanted)
-}
-
 #[test]
 fn a_table_without_nodes(rt: HostRuntime) -> Result<(), Fail> {
-    is(
+    writes(
         rt.alloc(),
-        table(rt.alloc()),
+        &table(rt.alloc()),
         b"VIOT\x30\0\0\0\x01\x11FOOBARCAFEDEAD\xef\xbe\xad\xdeRVAT\0\0\0\x01\0\0\x30\0\0\0\0\0\0\0\0\0",
-    )
-}
-
-// A table of revision 0.
-#[test]
-fn revision_0(rt: HostRuntime) -> Result<(), Fail> {
-    is(
-        rt.alloc(),
-        VIOT::of_revision(rt.alloc(), 0, OEM, OEM_TABLE, OEM_REVISION),
-        b"VIOT\x30\0\0\0\0\x12FOOBARCAFEDEAD\xef\xbe\xad\xdeRVAT\0\0\0\x01\0\0\x30\0\0\0\0\0\0\0\0\0",
     )
 }
 
@@ -82,9 +67,9 @@ fn add_each_kind(table: &mut VIOT) -> R<()> {
 fn a_node_of_each_kind(rt: HostRuntime) -> Result<(), Fail> {
     let mut table = table(rt.alloc());
     add_each_kind(&mut table)?;
-    is(
+    writes(
         rt.alloc(),
-        table,
+        &table,
         b"VIOT\x98\0\0\0\x01\xc8FOOBARCAFEDEAD\xef\xbe\xad\xdeRVAT\0\0\0\x01\
             \x05\0\x30\0\0\0\0\0\0\0\0\0\
             \x03\0\x10\0\x01\x02\xf6\xfe\0\0\0\0\0\0\0\0\
@@ -95,99 +80,26 @@ fn a_node_of_each_kind(rt: HostRuntime) -> Result<(), Fail> {
     )
 }
 
-// Fails unless the IOMMU of a PCI device has the numbers of the device, at offset 4.
-fn pci_iommu(alloc: Global, device: PciDevice, numbers: [u8; 4]) -> Result<(), Fail> {
-    let mut wanted = *b"\x03\0\x10\0\0\0\0\0\0\0\0\0\0\0\0\0";
-    wanted[4..8].copy_from_slice(&numbers);
-    writes(alloc, &VirtIoPciIommu::new(device), &wanted)
-}
-
 #[test]
-fn pci_iommus(rt: HostRuntime) -> Result<(), Fail> {
-    let alloc = rt.alloc();
-    pci_iommu(alloc, PciDevice::new(0, 0, 0, 0), [0, 0, 0, 0])?;
-    let high = PciDevice::new(0xffff, 0xff, 31, 7);
-    pci_iommu(alloc, high, [0xff, 0xff, 0xff, 0xff])?;
-    pci_iommu(alloc, PciDevice::new(0, 0, 0, 7), [0, 0, 7, 0])?;
-    pci_iommu(alloc, PciDevice::new(0, 0, 1, 0), [0, 0, 8, 0])?;
-    pci_iommu(alloc, PciDevice::new(0, 0, 31, 0), [0, 0, 0xf8, 0])
-}
-
-fn mmio_iommu(alloc: Global, address: u64, wanted: &[u8; 16]) -> Result<(), Fail> {
-    writes(alloc, &VirtIoMmioIommu::new(address), wanted)
-}
-
-#[test]
-fn mmio_iommus(rt: HostRuntime) -> Result<(), Fail> {
-    mmio_iommu(rt.alloc(), 0, &MMIO_IOMMU)?;
-    mmio_iommu(
-        rt.alloc(),
-        u64::MAX,
-        b"\x04\0\x10\0\0\0\0\0\xff\xff\xff\xff\xff\xff\xff\xff",
-    )
-}
-
-fn endpoint(alloc: Global, made: MmioEndpoint, wanted: &[u8; 24]) -> Result<(), Fail> {
-    writes(alloc, &made, wanted)
-}
-
-#[test]
-fn mmio_endpoints(rt: HostRuntime) -> Result<(), Fail> {
+#[rattlefmt::skip]
+fn nodes(rt: HostRuntime) -> Result<(), Fail> {
     let handle = first_handle(rt.alloc())?;
-    endpoint(
-        rt.alloc(),
-        MmioEndpoint::new(u32::MAX, u64::MAX, &handle),
-        b"\x02\0\x18\0\xff\xff\xff\xff\xff\xff\xff\xff\xff\xff\xff\xff\x30\0\0\0\0\0\0\0",
-    )?;
-    endpoint(
-        rt.alloc(),
-        MmioEndpoint::new(0, 0, &handle),
-        b"\x02\0\x18\0\0\0\0\0\0\0\0\0\0\0\0\0\x30\0\0\0\0\0\0\0",
-    )
-}
-
-fn pci_range(alloc: Global, made: PciRange, wanted: &[u8; 24]) -> Result<(), Fail> {
-    writes(alloc, &made, wanted)
-}
-
-// From the highest device to the lowest.
-fn reversed(handle: &TranslationHandle) -> PciRange {
-    let first = PciDevice::new(0xffff, 0xff, 31, 7);
-    PciRange::new(first, PciDevice::new(0, 0, 0, 0), handle)
-}
-
-#[test]
-fn pci_ranges(rt: HostRuntime) -> Result<(), Fail> {
-    let handle = first_handle(rt.alloc())?;
-    pci_range(
-        rt.alloc(),
-        reversed(&handle),
-        b"\x01\0\x18\0\xff\xff\0\0\xff\xff\0\0\xff\xff\0\0\x30\0\0\0\0\0\0\0",
-    )?;
-    pci_range(
-        rt.alloc(),
-        range(&handle),
-        b"\x01\0\x18\0\x25\x03\0\0\x01\x02\x07\x08\x25\x03\xff\xff\x30\0\0\0\0\0\0\0",
-    )
-}
-
-#[test]
-fn nodes_past_a_byte(rt: HostRuntime) -> Result<(), Fail> {
-    past_a_byte(rt.alloc(), &mut table(rt.alloc()))
-}
-
-fn past_a_byte(alloc: Global, table: &mut VIOT) -> Result<(), Fail> {
-    for _ in 0..256u16 {
-        let _ = add_iommu(table)?;
-    }
-    stands(
-        alloc,
-        table,
-        0,
-        b"VIOT\x30\x10\0\0\x01\0FOOBARCAFEDEAD\xef\xbe\xad\xdeRVAT\0\0\0\x01\0\x01\x30\0\0\0\0\0\0\0\0\0",
-    )?;
-    let fixed = b"\0\x01\x30\0\0\0\0\0\0\0\0\0";
-    many(alloc, table, b"VIOT", 1, fixed, &MMIO_IOMMU, 256)
+    all(rt.alloc(), &[
+        (&VirtIoPciIommu::new(PciDevice::new(0, 0, 0, 0)), b"\x03\0\x10\0\0\0\0\0\0\0\0\0\0\0\0\0"),
+        (&VirtIoPciIommu::new(PciDevice::new(0xffff, 0xff, 31, 7)), b"\x03\0\x10\0\xff\xff\xff\xff\0\0\0\0\0\0\0\0"),
+        (&VirtIoPciIommu::new(PciDevice::new(0, 0, 0, 7)), b"\x03\0\x10\0\0\0\x07\0\0\0\0\0\0\0\0\0"),
+        (&VirtIoPciIommu::new(PciDevice::new(0, 0, 1, 0)), b"\x03\0\x10\0\0\0\x08\0\0\0\0\0\0\0\0\0"),
+        (&VirtIoPciIommu::new(PciDevice::new(0, 0, 31, 0)), b"\x03\0\x10\0\0\0\xf8\0\0\0\0\0\0\0\0\0"),
+        (&VirtIoMmioIommu::new(0), &MMIO_IOMMU),
+        (&VirtIoMmioIommu::new(u64::MAX), b"\x04\0\x10\0\0\0\0\0\xff\xff\xff\xff\xff\xff\xff\xff"),
+        (&MmioEndpoint::new(u32::MAX, u64::MAX, &handle),
+            b"\x02\0\x18\0\xff\xff\xff\xff\xff\xff\xff\xff\xff\xff\xff\xff\x30\0\0\0\0\0\0\0"),
+        (&MmioEndpoint::new(0, 0, &handle), b"\x02\0\x18\0\0\0\0\0\0\0\0\0\0\0\0\0\x30\0\0\0\0\0\0\0"),
+        // from the highest device to the lowest
+        (&PciRange::new(PciDevice::new(0xffff, 0xff, 31, 7), PciDevice::new(0, 0, 0, 0), &handle),
+            b"\x01\0\x18\0\xff\xff\0\0\xff\xff\0\0\xff\xff\0\0\x30\0\0\0\0\0\0\0"),
+        (&range(&handle), b"\x01\0\x18\0\x25\x03\0\0\x01\x02\x07\x08\x25\x03\xff\xff\x30\0\0\0\0\0\0\0"),
+    ])
 }
 
 // Fills a table with 4,092 IOMMUs, and fails unless an endpoint has the offset of each.
@@ -196,7 +108,7 @@ fn fill(alloc: Global, table: &mut VIOT) -> Result<(), Fail> {
     for i in 0..4092u16 {
         let handle = add_iommu(table)?;
         wanted[16..18].copy_from_slice(&(48 + 16 * i).to_le_bytes());
-        endpoint(alloc, MmioEndpoint::new(0, 0, &handle), &wanted)?;
+        writes(alloc, &MmioEndpoint::new(0, 0, &handle), &wanted)?;
     }
     Ok(())
 }
@@ -272,14 +184,17 @@ fn add_last(alloc: Global, table: &mut VIOT) -> Result<TranslationHandle, Fail> 
 #[test]
 fn the_last_offset(rt: HostRuntime) -> Result<(), Fail> {
     let last = add_last(rt.alloc(), &mut table(rt.alloc()))?;
-    endpoint(
+    all(
         rt.alloc(),
-        MmioEndpoint::new(0, 0, &last),
-        b"\x02\0\x18\0\0\0\0\0\0\0\0\0\0\0\0\0\xe8\xff\0\0\0\0\0\0",
-    )?;
-    pci_range(
-        rt.alloc(),
-        range(&last),
-        b"\x01\0\x18\0\x25\x03\0\0\x01\x02\x07\x08\x25\x03\xff\xff\xe8\xff\0\0\0\0\0\0",
+        &[
+            (
+                &MmioEndpoint::new(0, 0, &last),
+                b"\x02\0\x18\0\0\0\0\0\0\0\0\0\0\0\0\0\xe8\xff\0\0\0\0\0\0",
+            ),
+            (
+                &range(&last),
+                b"\x01\0\x18\0\x25\x03\0\0\x01\x02\x07\x08\x25\x03\xff\xff\xe8\xff\0\0\0\0\0\0",
+            ),
+        ],
     )
 }

@@ -13,7 +13,7 @@ use std::alloc::Global;
 use std::test::Fail;
 use test_support::broken::Broken;
 use test_support::table::{many, stands};
-use test_support::{OEM, OEM_REVISION, OEM_TABLE, refuses, writes};
+use test_support::{OEM, OEM_REVISION, OEM_TABLE, all, equal, refuses, writes};
 
 fn table(alloc: Global) -> HEST {
     HEST::new(alloc, OEM, OEM_TABLE, OEM_REVISION)
@@ -108,75 +108,6 @@ fn each_kind(rt: HostRuntime) -> Result<(), Fail> {
     adds_each_kind(rt.alloc(), &mut hest, &mut Vec::new(rt.alloc()))
 }
 
-#[test]
-fn root_ports(rt: HostRuntime) -> Result<(), Fail> {
-    let alloc = rt.alloc();
-    writes(alloc, &PcieAerRootPort::new_global(), &ROOT_PORTS)?;
-    let port = PcieAerRootPort::new_root_port(FirmwareFirst::Enabled, PciDevice::new(0xfe, 31, 7))
-        .source_id(0x0302)
-        .enabled(EnabledStatus::Enabled)
-        .num_records(0x0b0a_0908)
-        .max_sections(0x0f0e_0d0c)
-        .device_control(0x1918)
-        .uncorrectable_error_mask(0x1f1e_1d1c)
-        .uncorrectable_error_severity(0x2322_2120)
-        .correctable_error_mask(0x2726_2524)
-        .aer_cap_ctrl(0x2b2a_2928)
-        .root_error_command(0x2f2e_2d2c);
-    writes(
-        alloc,
-        &port,
-        b"\x06\0\x02\x03\0\0\x01\x01\x08\x09\x0a\x0b\x0c\x0d\x0e\x0f\
-            \xfe\0\0\0\x1f\0\x07\0\x18\x19\0\0\x1c\x1d\x1e\x1f\
-            \x20\x21\x22\x23\x24\x25\x26\x27\x28\x29\x2a\x2b\x2c\x2d\x2e\x2f",
-    )
-}
-
-#[test]
-fn endpoints(rt: HostRuntime) -> Result<(), Fail> {
-    let alloc = rt.alloc();
-    writes(alloc, &PcieAerDevice::new_global(), &DEVICES)?;
-    let device = PcieAerDevice::new_root_port(FirmwareFirst::Disabled, PciDevice::new(0xfe, 31, 7))
-        .num_records(0x0b0a_0908)
-        .max_sections(0x0f0e_0d0c)
-        .device_control(0x1918)
-        .uncorrectable_error_mask(0x1f1e_1d1c)
-        .uncorrectable_error_severity(0x2322_2120)
-        .correctable_error_mask(0x2726_2524)
-        .aer_cap_ctrl(0x2b2a_2928);
-    writes(
-        alloc,
-        &device,
-        b"\x07\0\0\0\0\0\0\0\x08\x09\x0a\x0b\x0c\x0d\x0e\x0f\
-            \xfe\0\0\0\x1f\0\x07\0\x18\x19\0\0\x1c\x1d\x1e\x1f\
-            \x20\x21\x22\x23\x24\x25\x26\x27\x28\x29\x2a\x2b",
-    )
-}
-
-#[test]
-fn bridges(rt: HostRuntime) -> Result<(), Fail> {
-    let alloc = rt.alloc();
-    writes(alloc, &PcieAerBridge::new_global(), &BRIDGES)?;
-    let bridge = PcieAerBridge::new_bridge(FirmwareFirst::Enabled, PciDevice::new(0xfe, 31, 7))
-        .num_records(0x0b0a_0908)
-        .max_sections(0x0f0e_0d0c)
-        .device_control(0x1918)
-        .uncorrectable_error_mask(0x1f1e_1d1c)
-        .uncorrectable_error_severity(0x2322_2120)
-        .correctable_error_mask(0x2726_2524)
-        .aer_cap_ctrl(0x2b2a_2928)
-        .secondary_uncorrectable_error_mask(0x2f2e_2d2c)
-        .secondary_uncorrectable_error_severity(0x3332_3130)
-        .secondary_aer_cap_ctrl(0x3736_3534);
-    writes(
-        alloc,
-        &bridge,
-        b"\x08\0\0\0\0\0\x01\0\x08\x09\x0a\x0b\x0c\x0d\x0e\x0f\
-            \xfe\0\0\0\x1f\0\x07\0\x18\x19\0\0\x1c\x1d\x1e\x1f\
-            \x20\x21\x22\x23\x24\x25\x26\x27\x28\x29\x2a\x2b\x2c\x2d\x2e\x2f\x30\x31\x32\x33\x34\x35\x36\x37",
-    )
-}
-
 fn notification() -> NotificationStructure {
     NotificationStructure::new(NotificationType::Sci)
         .conf_write_en(0x0302)
@@ -217,6 +148,7 @@ fn notifications(rt: HostRuntime) -> Result<(), Fail> {
         (NotificationType::RiscvHighPriorityRasInterrupt, 14),
         (NotificationType::RiscvHardwareErrorException, 15),
     ] {
+        equal(&(kind as u8), &number)?;
         wanted[0] = number;
         writes(alloc, &NotificationStructure::new(kind), &wanted)?;
     }
@@ -231,65 +163,114 @@ const STATUS: GAS = GAS {
     address: 0x0807_0605_0403_0201,
 };
 
+const ACKNOWLEDGEMENT: GAS = GAS {
+    address_space_id: AddressSpace::SystemMemory,
+    register_bit_width: 64,
+    register_bit_offset: 5,
+    access_size: AccessSize::QwordAccess,
+    address: 0x1817_1615_1413_1211,
+};
+
+// Sources with each of their fields, and hardware sources that are disabled and have no others.
 #[test]
-fn hardware_sources(rt: HostRuntime) -> Result<(), Fail> {
-    let alloc = rt.alloc();
-    let mut wanted = [0; 64];
-    wanted[0] = 9;
-    wanted[4..6].copy_from_slice(&[0xff, 0xff]);
-    let first = GenericHardwareSource::new(0, EnabledStatus::Disabled);
-    writes(alloc, &first, &wanted)?;
-    let source = GenericHardwareSource::new(0x0302, EnabledStatus::Enabled)
+fn fields_of_sources(rt: HostRuntime) -> Result<(), Fail> {
+    let port = PcieAerRootPort::new_root_port(FirmwareFirst::Enabled, PciDevice::new(0xfe, 31, 7))
+        .source_id(0x0302)
+        .enabled(EnabledStatus::Enabled)
+        .num_records(0x0b0a_0908)
+        .max_sections(0x0f0e_0d0c)
+        .device_control(0x1918)
+        .uncorrectable_error_mask(0x1f1e_1d1c)
+        .uncorrectable_error_severity(0x2322_2120)
+        .correctable_error_mask(0x2726_2524)
+        .aer_cap_ctrl(0x2b2a_2928)
+        .root_error_command(0x2f2e_2d2c);
+    let device = PcieAerDevice::new_root_port(FirmwareFirst::Disabled, PciDevice::new(0xfe, 31, 7))
+        .num_records(0x0b0a_0908)
+        .max_sections(0x0f0e_0d0c)
+        .device_control(0x1918)
+        .uncorrectable_error_mask(0x1f1e_1d1c)
+        .uncorrectable_error_severity(0x2322_2120)
+        .correctable_error_mask(0x2726_2524)
+        .aer_cap_ctrl(0x2b2a_2928);
+    let bridge = PcieAerBridge::new_bridge(FirmwareFirst::Enabled, PciDevice::new(0xfe, 31, 7))
+        .num_records(0x0b0a_0908)
+        .max_sections(0x0f0e_0d0c)
+        .device_control(0x1918)
+        .uncorrectable_error_mask(0x1f1e_1d1c)
+        .uncorrectable_error_severity(0x2322_2120)
+        .correctable_error_mask(0x2726_2524)
+        .aer_cap_ctrl(0x2b2a_2928)
+        .secondary_uncorrectable_error_mask(0x2f2e_2d2c)
+        .secondary_uncorrectable_error_severity(0x3332_3130)
+        .secondary_aer_cap_ctrl(0x3736_3534);
+    let first = GenericHardwareSource::new(0x0302, EnabledStatus::Enabled)
         .num_records(0x0b0a_0908)
         .max_sections(0x0f0e_0d0c)
         .max_raw_length(0x1312_1110)
         .error_status_address(STATUS)
         .notification(notification())
         .error_status_block_len(0x3f3e_3d3c);
-    writes(
-        alloc,
-        &source,
-        b"\x09\0\x02\x03\xff\xff\0\x01\x08\x09\x0a\x0b\x0c\x0d\x0e\x0f\
-            \x10\x11\x12\x13\x01\x08\x03\x02\x01\x02\x03\x04\x05\x06\x07\x08\
-            \x03\x1c\x02\x03\x04\x05\x06\x07\x08\x09\x0a\x0b\x0c\x0d\x0e\x0f\
-            \x10\x11\x12\x13\x14\x15\x16\x17\x18\x19\x1a\x1b\x3c\x3d\x3e\x3f",
-    )
-}
-
-#[test]
-fn hardware_sources_of_version_2(rt: HostRuntime) -> Result<(), Fail> {
-    let alloc = rt.alloc();
-    let mut wanted = [0; 92];
-    wanted[0] = 10;
-    wanted[4..6].copy_from_slice(&[0xff, 0xff]);
-    let first = GenericHardwareSourceV2::new(0, EnabledStatus::Disabled);
-    writes(alloc, &first, &wanted)?;
-    let register = GAS {
-        address_space_id: AddressSpace::SystemMemory,
-        register_bit_width: 64,
-        register_bit_offset: 5,
-        access_size: AccessSize::QwordAccess,
-        address: 0x1817_1615_1413_1211,
-    };
-    let source = GenericHardwareSourceV2::new(0x0302, EnabledStatus::Enabled)
+    let second = GenericHardwareSourceV2::new(0x0302, EnabledStatus::Enabled)
         .num_records(0x0b0a_0908)
         .max_sections(0x0f0e_0d0c)
         .max_raw_length(0x1312_1110)
         .error_status_address(STATUS)
         .notification(notification())
         .error_status_block_len(0x3f3e_3d3c)
-        .read_ack_register(register)
+        .read_ack_register(ACKNOWLEDGEMENT)
         .read_ack_preserve(0x5352_5150_4f4e_4d4c)
         .read_ack_write(0x5b5a_5958_5756_5554);
-    writes(
-        alloc,
-        &source,
-        b"\x0a\0\x02\x03\xff\xff\0\x01\x08\x09\x0a\x0b\x0c\x0d\x0e\x0f\
-            \x10\x11\x12\x13\x01\x08\x03\x02\x01\x02\x03\x04\x05\x06\x07\x08\
-            \x03\x1c\x02\x03\x04\x05\x06\x07\x08\x09\x0a\x0b\x0c\x0d\x0e\x0f\
-            \x10\x11\x12\x13\x14\x15\x16\x17\x18\x19\x1a\x1b\x3c\x3d\x3e\x3f\
-            \0\x40\x05\x04\x11\x12\x13\x14\x15\x16\x17\x18LMNO\
-            PQRSTUVWXYZ\x5b",
+    all(
+        rt.alloc(),
+        &[
+            (
+                &port,
+                b"\x06\0\x02\x03\0\0\x01\x01\x08\x09\x0a\x0b\x0c\x0d\x0e\x0f\
+                    \xfe\0\0\0\x1f\0\x07\0\x18\x19\0\0\x1c\x1d\x1e\x1f\
+                    \x20\x21\x22\x23\x24\x25\x26\x27\x28\x29\x2a\x2b\x2c\x2d\x2e\x2f",
+            ),
+            (
+                &device,
+                b"\x07\0\0\0\0\0\0\0\x08\x09\x0a\x0b\x0c\x0d\x0e\x0f\
+                    \xfe\0\0\0\x1f\0\x07\0\x18\x19\0\0\x1c\x1d\x1e\x1f\
+                    \x20\x21\x22\x23\x24\x25\x26\x27\x28\x29\x2a\x2b",
+            ),
+            (
+                &bridge,
+                b"\x08\0\0\0\0\0\x01\0\x08\x09\x0a\x0b\x0c\x0d\x0e\x0f\
+                    \xfe\0\0\0\x1f\0\x07\0\x18\x19\0\0\x1c\x1d\x1e\x1f\
+                    \x20\x21\x22\x23\x24\x25\x26\x27\x28\x29\x2a\x2b\x2c\x2d\x2e\x2f\
+                    \x30\x31\x32\x33\x34\x35\x36\x37",
+            ),
+            (
+                &GenericHardwareSource::new(0, EnabledStatus::Disabled),
+                b"\x09\0\0\0\xff\xff\0\0\0\0\0\0\0\0\0\0\0\0\0\0\0\0\0\0\0\0\0\0\0\0\0\0\
+                    \0\0\0\0\0\0\0\0\0\0\0\0\0\0\0\0\0\0\0\0\0\0\0\0\0\0\0\0\0\0\0\0",
+            ),
+            (
+                &first,
+                b"\x09\0\x02\x03\xff\xff\0\x01\x08\x09\x0a\x0b\x0c\x0d\x0e\x0f\
+                    \x10\x11\x12\x13\x01\x08\x03\x02\x01\x02\x03\x04\x05\x06\x07\x08\
+                    \x03\x1c\x02\x03\x04\x05\x06\x07\x08\x09\x0a\x0b\x0c\x0d\x0e\x0f\
+                    \x10\x11\x12\x13\x14\x15\x16\x17\x18\x19\x1a\x1b\x3c\x3d\x3e\x3f",
+            ),
+            (
+                &GenericHardwareSourceV2::new(0, EnabledStatus::Disabled),
+                b"\x0a\0\0\0\xff\xff\0\0\0\0\0\0\0\0\0\0\0\0\0\0\0\0\0\0\0\0\0\0\0\0\0\0\
+                    \0\0\0\0\0\0\0\0\0\0\0\0\0\0\0\0\0\0\0\0\0\0\0\0\0\0\0\0\0\0\0\0\
+                    \0\0\0\0\0\0\0\0\0\0\0\0\0\0\0\0\0\0\0\0\0\0\0\0\0\0\0\0",
+            ),
+            (
+                &second,
+                b"\x0a\0\x02\x03\xff\xff\0\x01\x08\x09\x0a\x0b\x0c\x0d\x0e\x0f\
+                    \x10\x11\x12\x13\x01\x08\x03\x02\x01\x02\x03\x04\x05\x06\x07\x08\
+                    \x03\x1c\x02\x03\x04\x05\x06\x07\x08\x09\x0a\x0b\x0c\x0d\x0e\x0f\
+                    \x10\x11\x12\x13\x14\x15\x16\x17\x18\x19\x1a\x1b\x3c\x3d\x3e\x3f\
+                    \0\x40\x05\x04\x11\x12\x13\x14\x15\x16\x17\x18LMNO\
+                    PQRSTUVWXYZ\x5b",
+            ),
+        ],
     )
 }
 
@@ -320,6 +301,7 @@ fn statuses(rt: HostRuntime) -> Result<(), Fail> {
         (ErrorSeverity::None, 3),
         (ErrorSeverity::default(), 3),
     ] {
+        equal(&(severity as u8), &number)?;
         wanted[16] = number;
         writes(alloc, &GenericErrorStatus::new(0, 0, severity), &wanted)?;
     }

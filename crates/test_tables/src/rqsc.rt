@@ -227,14 +227,6 @@ fn adds(
     many(alloc, rqsc, b"RQSC", 1, fields, all, 1)
 }
 
-#[test]
-fn a_table_of_two_resources(rt: HostRuntime) -> Result<(), Fail> {
-    let alloc = rt.alloc();
-    let mut made = controller(alloc);
-    add_two(alloc, &mut made)?;
-    adds(alloc, &mut table(alloc), made, &[1, 0, 0, 0], &SHARED)
-}
-
 // Adds 258 resources of a vendor, which have no bytes.
 fn add_many(alloc: Global, made: &mut QoSController) -> R<()> {
     for _ in 0..258u16 {

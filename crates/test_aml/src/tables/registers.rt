@@ -9,7 +9,7 @@ use std::test::Fail;
 use test_support::{equal, same, writes};
 
 #[test]
-fn spaces(rt: HostRuntime) -> Result<(), Fail> {
+fn spaces_and_access_sizes(rt: HostRuntime) -> Result<(), Fail> {
     for (space, number) in [
         (AddressSpace::SystemMemory, 0),
         (AddressSpace::SystemIo, 1),
@@ -36,11 +36,6 @@ fn spaces(rt: HostRuntime) -> Result<(), Fail> {
         let wanted = [number, 0x20, 0x03, 1, 1, 2, 3, 4, 5, 6, 7, 8];
         writes(rt.alloc(), &register, &wanted)?;
     }
-    Ok(())
-}
-
-#[test]
-fn access_sizes(rt: HostRuntime) -> Result<(), Fail> {
     for (size, number) in [
         (AccessSize::Undefined, 0),
         (AccessSize::ByteAccess, 1),
@@ -53,11 +48,6 @@ fn access_sizes(rt: HostRuntime) -> Result<(), Fail> {
         let wanted = [1, 0x10, 0, number, 0xf8, 3, 0, 0, 0, 0, 0, 0];
         writes(rt.alloc(), &register, &wanted)?;
     }
-    Ok(())
-}
-
-#[test]
-fn pci_registers(rt: HostRuntime) -> Result<(), Fail> {
     let register = GAS::new_pci_config(16, AccessSize::WordAccess, 31, 7, 0x40);
     let wanted = [2, 0x10, 0, 2, 0x40, 0, 7, 0, 0x1f, 0, 0, 0];
     equal(&GAS::len(), &12)?;
@@ -75,38 +65,50 @@ fn in_table(alloc: Global, register: GenericAddress) -> R<Vec<u8>> {
 }
 
 #[test]
-fn widths(rt: HostRuntime) -> Result<(), Fail> {
-    for (register, wanted) in [
-        (GenericAddress::io_port_address::<u8>(0x3f8), [1, 8, 0, 1]),
-        (GenericAddress::io_port_address::<u16>(0x3f8), [1, 16, 0, 2]),
-        (GenericAddress::io_port_address::<u32>(0x3f8), [1, 32, 0, 3]),
-        (GenericAddress::io_port_address::<u64>(0x3f8), [1, 64, 0, 4]),
-        (GenericAddress::mmio_address::<u8>(0x3f8), [0, 8, 0, 1]),
-        (GenericAddress::mmio_address::<u16>(0x3f8), [0, 16, 0, 2]),
-        (GenericAddress::mmio_address::<u32>(0x3f8), [0, 32, 0, 3]),
-        (GenericAddress::mmio_address::<u64>(0x3f8), [0, 64, 0, 4]),
-    ] {
-        let bytes = in_table(rt.alloc(), register)?;
-        let [space, width, offset, size] = wanted;
-        same(
-            &bytes,
-            &[space, width, offset, size, 0xf8, 3, 0, 0, 0, 0, 0, 0],
-        )?;
-    }
-    Ok(())
-}
-
-#[test]
-fn bit_offsets(rt: HostRuntime) -> Result<(), Fail> {
-    let register = GenericAddress {
+fn in_tables(rt: HostRuntime) -> Result<(), Fail> {
+    let offset = GenericAddress {
         address_space_id: 1,
         register_bit_width: 8,
         register_bit_offset: 3,
         access_size: 2,
         address: 0x1817_1615_1413_1211,
     };
-    same(
-        &in_table(rt.alloc(), register)?,
-        &[1, 8, 3, 2, 0x11, 0x12, 0x13, 0x14, 0x15, 0x16, 0x17, 0x18],
-    )
+    for (register, wanted) in [
+        (
+            GenericAddress::io_port_address::<u8>(0x3f8),
+            b"\x01\x08\0\x01\xf8\x03\0\0\0\0\0\0",
+        ),
+        (
+            GenericAddress::io_port_address::<u16>(0x3f8),
+            b"\x01\x10\0\x02\xf8\x03\0\0\0\0\0\0",
+        ),
+        (
+            GenericAddress::io_port_address::<u32>(0x3f8),
+            b"\x01\x20\0\x03\xf8\x03\0\0\0\0\0\0",
+        ),
+        (
+            GenericAddress::io_port_address::<u64>(0x3f8),
+            b"\x01\x40\0\x04\xf8\x03\0\0\0\0\0\0",
+        ),
+        (
+            GenericAddress::mmio_address::<u8>(0x3f8),
+            b"\0\x08\0\x01\xf8\x03\0\0\0\0\0\0",
+        ),
+        (
+            GenericAddress::mmio_address::<u16>(0x3f8),
+            b"\0\x10\0\x02\xf8\x03\0\0\0\0\0\0",
+        ),
+        (
+            GenericAddress::mmio_address::<u32>(0x3f8),
+            b"\0\x20\0\x03\xf8\x03\0\0\0\0\0\0",
+        ),
+        (
+            GenericAddress::mmio_address::<u64>(0x3f8),
+            b"\0\x40\0\x04\xf8\x03\0\0\0\0\0\0",
+        ),
+        (offset, b"\x01\x08\x03\x02\x11\x12\x13\x14\x15\x16\x17\x18"),
+    ] {
+        same(&in_table(rt.alloc(), register)?, wanted)?;
+    }
+    Ok(())
 }

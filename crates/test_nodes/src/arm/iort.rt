@@ -159,83 +159,74 @@ fn memory_accesses(rt: HostRuntime) -> Result<(), Fail> {
     Ok(())
 }
 
-fn root(alloc: Global, node: RootComplex, changes: &[(usize, u8)]) -> Result<(), Fail> {
+// A call that sets fields of a root complex.
+#[derive(Clone, Copy)]
+enum RootCall {
+    Access,
+    Ats,
+    Pri,
+    Forwarding,
+    Limit64,
+    Pasid15,
+    Pasid16,
+    Pasid31,
+}
+
+fn with_root_call(node: RootComplex, call: RootCall) -> RootComplex {
+    match call {
+        RootCall::Access => {
+            let access = MemoryAccess::new().cache_coherent().read_allocate();
+            node.memory_access(access.cacheable_attributes())
+        }
+        RootCall::Ats => node.ats_supported(),
+        RootCall::Pri => node.pri_supported(),
+        RootCall::Forwarding => node.pasid_forwarding(),
+        RootCall::Limit64 => node.address_size_limit(64),
+        RootCall::Pasid15 => node.pasid_supported(15),
+        RootCall::Pasid16 => node.pasid_supported(16),
+        RootCall::Pasid31 => node.pasid_supported(31),
+    }
+}
+
+// Fails unless a root complex of this segment has these numbers at their offsets after these calls.
+fn root(
+    alloc: Global,
+    segment: u32,
+    calls: &[RootCall],
+    changes: &[(usize, u8)],
+) -> Result<(), Fail> {
+    let mut made = RootComplex::new(alloc, segment);
+    for call in calls {
+        made = with_root_call(made, *call);
+    }
     let plain =
         b"\x02\x28\0\x04\0\0\0\0\0\0\0\0\0\0\0\0\0\0\0\0\0\0\0\0\0\0\0\0\0\0\0\0\0\0\0\0\0\0\0\0";
-    changed(alloc, &node, plain, changes)
+    changed(alloc, &made, plain, changes)
 }
+
+// Each flag alone and after others, all of them twice, and a number of bits that replaces another.
+#[rattlefmt::skip]
+const ROOTS: [(u32, &[RootCall], &[(usize, u8)]); 8] = [
+    (0x0403_0201, &[RootCall::Access], &[(16, 1), (20, 4), (23, 2), (28, 1), (29, 2), (30, 3), (31, 4)]),
+    (0, &[RootCall::Ats, RootCall::Limit64], &[(24, 1), (32, 64)]),
+    (0, &[RootCall::Pri], &[(24, 2)]),
+    (0, &[RootCall::Forwarding], &[(24, 4)]),
+    (0, &[RootCall::Ats, RootCall::Pri, RootCall::Forwarding], &[(24, 7)]),
+    (0, &[RootCall::Ats, RootCall::Pri, RootCall::Forwarding, RootCall::Pri, RootCall::Forwarding, RootCall::Ats], &[(24, 7)]),
+    (0, &[RootCall::Pasid31], &[(33, 31), (36, 1)]),
+    (0, &[RootCall::Pasid15, RootCall::Pasid16], &[(33, 16), (36, 1)]),
+];
 
 #[test]
 fn root_complexes(rt: HostRuntime) -> Result<(), Fail> {
-    let alloc = rt.alloc();
-    let access = MemoryAccess::new()
-        .cache_coherent()
-        .read_allocate()
-        .cacheable_attributes();
-    root(
-        alloc,
-        RootComplex::new(alloc, 0x0403_0201).memory_access(access),
-        &[
-            (16, 1),
-            (20, 4),
-            (23, 2),
-            (28, 1),
-            (29, 2),
-            (30, 3),
-            (31, 4),
-        ],
-    )
+    for (segment, calls, changes) in &ROOTS {
+        root(rt.alloc(), *segment, *calls, *changes)?;
+    }
+    Ok(())
 }
 
 pub(crate) fn plain_root(alloc: Global) -> RootComplex {
     RootComplex::new(alloc, 0)
-}
-
-#[test]
-fn flags_of_root_complexes(rt: HostRuntime) -> Result<(), Fail> {
-    let alloc = rt.alloc();
-    root(
-        alloc,
-        plain_root(alloc).ats_supported().address_size_limit(64),
-        &[(24, 1), (32, 64)],
-    )?;
-    root(alloc, plain_root(alloc).pri_supported(), &[(24, 2)])?;
-    root(alloc, plain_root(alloc).pasid_forwarding(), &[(24, 4)])?;
-    root(
-        alloc,
-        plain_root(alloc)
-            .ats_supported()
-            .pri_supported()
-            .pasid_forwarding(),
-        &[(24, 7)],
-    )?;
-    root(
-        alloc,
-        plain_root(alloc)
-            .ats_supported()
-            .pri_supported()
-            .pasid_forwarding()
-            .pri_supported()
-            .pasid_forwarding()
-            .ats_supported(),
-        &[(24, 7)],
-    )
-}
-
-// A second number replaces the first.
-#[test]
-fn pasids_of_root_complexes(rt: HostRuntime) -> Result<(), Fail> {
-    let alloc = rt.alloc();
-    root(
-        alloc,
-        plain_root(alloc).pasid_supported(31),
-        &[(33, 31), (36, 1)],
-    )?;
-    root(
-        alloc,
-        plain_root(alloc).pasid_supported(15).pasid_supported(16),
-        &[(33, 16), (36, 1)],
-    )
 }
 
 fn maps_root(alloc: Global, root_complex: &mut RootComplex) -> Result<(), Fail> {
@@ -326,13 +317,7 @@ fn smmu_is(alloc: Global, smmu: Smmu, at: usize, number: u8) -> Result<(), Fail>
 }
 
 #[test]
-fn flags_of_smmus(rt: HostRuntime) -> Result<(), Fail> {
-    let smmu = smmu(rt.alloc(), SmmuModel::GenericV1);
-    smmu_is(rt.alloc(), smmu.coherent_walk().dvm_supported(), 36, 3)
-}
-
-#[test]
-fn models_of_smmus(rt: HostRuntime) -> Result<(), Fail> {
+fn models_and_flags_of_smmus(rt: HostRuntime) -> Result<(), Fail> {
     let alloc = rt.alloc();
     for (model, number) in [
         (SmmuModel::GenericV1, 0),
@@ -344,7 +329,8 @@ fn models_of_smmus(rt: HostRuntime) -> Result<(), Fail> {
     ] {
         smmu_is(alloc, smmu(alloc, model).coherent_walk(), 32, number)?;
     }
-    Ok(())
+    let smmu = smmu(alloc, SmmuModel::GenericV1);
+    smmu_is(alloc, smmu.coherent_walk().dvm_supported(), 36, 3)
 }
 
 fn plain_smmu(alloc: Global) -> Smmu {
@@ -402,77 +388,93 @@ fn mappings_of_an_smmu_v3(rt: HostRuntime) -> Result<(), Fail> {
     maps_smmu_v3(rt.alloc(), &mut SmmuV3::new(rt.alloc(), model, base))
 }
 
-fn smmu_v3(alloc: Global, smmu: SmmuV3, changes: &[(usize, u8)]) -> Result<(), Fail> {
-    let plain =
-        b"\x04\x44\0\x04\0\0\0\0\0\0\0\0\0\0\0\0\0\0\0\0\0\0\0\0\0\0\0\0\0\0\0\0\0\0\0\0\0\0\0\0\
-            \0\0\0\0\0\0\0\0\0\0\0\0\0\0\0\0\0\0\0\0\0\0\0\0\0\0\0\0";
-    changed(alloc, &smmu, plain, changes)
-}
-
 // An SMMUv3 whose registers are at the address 0.
 pub(crate) fn generic(alloc: Global) -> SmmuV3 {
     SmmuV3::new(alloc, SmmuV3Model::Generic, 0)
 }
 
-fn flagged(smmu: SmmuV3) -> SmmuV3 {
-    smmu.cohacc_override()
-        .httu_override(Httu::AccessFlagAndDirty)
-        .proximity_domain(5)
-        .device_id_mapping(6)
+// A call that sets a field of an SMMUv3.
+#[derive(Clone, Copy)]
+enum V3Call {
+    Cohacc,
+    Httu(Httu),
+    Vatos(u64),
+    Event(u32),
+    Pri(u32),
+    Gerr(u32),
+    Sync(u32),
+    Domain(u32),
+    DeviceId(u32),
 }
 
-// Flags that are set again stay as they are.
-#[test]
-fn flags_of_smmus_v3(rt: HostRuntime) -> Result<(), Fail> {
-    let all = flagged(flagged(generic(rt.alloc())));
-    smmu_v3(rt.alloc(), all, &[(24, 13), (60, 5), (64, 6)])?;
-    let all = flagged(generic(rt.alloc())).cohacc_override();
-    smmu_v3(rt.alloc(), all, &[(24, 13), (60, 5), (64, 6)])
-}
-
-// A second HTTU Override replaces the first.
-#[test]
-fn updates_of_smmus_v3(rt: HostRuntime) -> Result<(), Fail> {
-    let smmu = generic(rt.alloc()).httu_override(Httu::AccessFlagAndDirty);
-    smmu_v3(rt.alloc(), smmu.httu_override(Httu::AccessFlag), &[(24, 2)])
-}
-
-#[test]
-fn models_and_flags_of_smmus_v3(rt: HostRuntime) -> Result<(), Fail> {
-    let alloc = rt.alloc();
-    for (model, number) in [
-        (SmmuV3Model::HiSiliconHi161x, 1),
-        (SmmuV3Model::CaviumCn99xx, 2),
-    ] {
-        smmu_v3(alloc, SmmuV3::new(alloc, model, 0), &[(40, number)])?;
+fn with_v3_call(smmu: SmmuV3, call: V3Call) -> SmmuV3 {
+    match call {
+        V3Call::Cohacc => smmu.cohacc_override(),
+        V3Call::Httu(httu) => smmu.httu_override(httu),
+        V3Call::Vatos(address) => smmu.vatos_address(address),
+        V3Call::Event(gsiv) => smmu.event_gsiv(gsiv),
+        V3Call::Pri(gsiv) => smmu.pri_gsiv(gsiv),
+        V3Call::Gerr(gsiv) => smmu.gerr_gsiv(gsiv),
+        V3Call::Sync(gsiv) => smmu.sync_gsiv(gsiv),
+        V3Call::Domain(domain) => smmu.proximity_domain(domain),
+        V3Call::DeviceId(index) => smmu.device_id_mapping(index),
     }
-    smmu_v3(alloc, generic(alloc).cohacc_override(), &[(24, 1)])?;
-    for (httu, number) in [(Httu::AccessFlag, 2), (Httu::AccessFlagAndDirty, 4)] {
-        smmu_v3(alloc, generic(alloc).httu_override(httu), &[(24, number)])?;
+}
+
+// Fails unless an SMMUv3 of this model has these numbers at their offsets after these calls.
+fn smmu_v3(
+    alloc: Global,
+    model: SmmuV3Model,
+    calls: &[V3Call],
+    changes: &[(usize, u8)],
+) -> Result<(), Fail> {
+    let mut made = SmmuV3::new(alloc, model, 0);
+    for call in calls {
+        made = with_v3_call(made, *call);
+    }
+    let plain =
+        b"\x04\x44\0\x04\0\0\0\0\0\0\0\0\0\0\0\0\0\0\0\0\0\0\0\0\0\0\0\0\0\0\0\0\0\0\0\0\0\0\0\0\
+            \0\0\0\0\0\0\0\0\0\0\0\0\0\0\0\0\0\0\0\0\0\0\0\0\0\0\0\0";
+    changed(alloc, &made, plain, changes)
+}
+
+const FLAGGED: [V3Call; 8] = [
+    V3Call::Cohacc,
+    V3Call::Httu(Httu::AccessFlagAndDirty),
+    V3Call::Domain(5),
+    V3Call::DeviceId(6),
+    V3Call::Cohacc,
+    V3Call::Httu(Httu::AccessFlagAndDirty),
+    V3Call::Domain(5),
+    V3Call::DeviceId(6),
+];
+
+// Each call alone. Flags that are set again stay as they are, and a second HTTU Override replaces the first.
+#[rattlefmt::skip]
+const SMMUS_V3: [(SmmuV3Model, &[V3Call], &[(usize, u8)]); 13] = [
+    (SmmuV3Model::HiSiliconHi161x, &[], &[(40, 1)]),
+    (SmmuV3Model::CaviumCn99xx, &[], &[(40, 2)]),
+    (SmmuV3Model::Generic, &[V3Call::Cohacc], &[(24, 1)]),
+    (SmmuV3Model::Generic, &[V3Call::Httu(Httu::AccessFlag)], &[(24, 2)]),
+    (SmmuV3Model::Generic, &[V3Call::Httu(Httu::AccessFlagAndDirty)], &[(24, 4)]),
+    (SmmuV3Model::Generic, &[V3Call::Httu(Httu::AccessFlagAndDirty), V3Call::Httu(Httu::AccessFlag)], &[(24, 2)]),
+    (SmmuV3Model::Generic, &[V3Call::Vatos(7)], &[(32, 7)]),
+    (SmmuV3Model::Generic, &[V3Call::Event(1), V3Call::Pri(2)], &[(44, 1), (48, 2)]),
+    (SmmuV3Model::Generic, &[V3Call::Gerr(3), V3Call::Sync(4)], &[(52, 3), (56, 4)]),
+    (SmmuV3Model::Generic, &[V3Call::Domain(5)], &[(24, 8), (60, 5)]),
+    (SmmuV3Model::Generic, &[V3Call::DeviceId(6)], &[(64, 6)]),
+    (SmmuV3Model::Generic, &FLAGGED, &[(24, 13), (60, 5), (64, 6)]),
+    (SmmuV3Model::Generic,
+        &[V3Call::Cohacc, V3Call::Httu(Httu::AccessFlagAndDirty), V3Call::Domain(5), V3Call::DeviceId(6), V3Call::Cohacc],
+        &[(24, 13), (60, 5), (64, 6)]),
+];
+
+#[test]
+fn models_and_calls_of_smmus_v3(rt: HostRuntime) -> Result<(), Fail> {
+    for (model, calls, changes) in &SMMUS_V3 {
+        smmu_v3(rt.alloc(), *model, *calls, *changes)?;
     }
     Ok(())
-}
-
-#[test]
-fn fields_of_smmus_v3(rt: HostRuntime) -> Result<(), Fail> {
-    let alloc = rt.alloc();
-    smmu_v3(alloc, generic(alloc).vatos_address(7), &[(32, 7)])?;
-    smmu_v3(
-        alloc,
-        generic(alloc).event_gsiv(1).pri_gsiv(2),
-        &[(44, 1), (48, 2)],
-    )?;
-    smmu_v3(
-        alloc,
-        generic(alloc).gerr_gsiv(3).sync_gsiv(4),
-        &[(52, 3), (56, 4)],
-    )?;
-    smmu_v3(
-        alloc,
-        generic(alloc).proximity_domain(5),
-        &[(24, 8), (60, 5)],
-    )?;
-    smmu_v3(alloc, generic(alloc).device_id_mapping(6), &[(64, 6)])
 }
 
 // Reserved memory without ranges.

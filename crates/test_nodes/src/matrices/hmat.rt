@@ -8,7 +8,7 @@ use acpi_tables::{Error, R};
 use std::alloc::Global;
 use std::test::Fail;
 use test_support::table::{is_sized, many, reads_back};
-use test_support::{OEM, OEM_REVISION, OEM_TABLE, makes, refuses, writes};
+use test_support::{OEM, OEM_REVISION, OEM_TABLE, equal, makes, refuses, writes};
 
 pub(crate) fn table(alloc: Global) -> HMAT {
     HMAT::new(alloc, OEM, OEM_TABLE, OEM_REVISION)
@@ -35,17 +35,6 @@ fn no_structures(rt: HostRuntime) -> Result<(), Fail> {
     )
 }
 
-// A table of revision 2.
-#[test]
-fn revision_2(rt: HostRuntime) -> Result<(), Fail> {
-    let table = HMAT::of_revision(rt.alloc(), 2, OEM, OEM_TABLE, OEM_REVISION);
-    writes(
-        rt.alloc(),
-        &table,
-        b"HMAT\x28\0\0\0\x02\x60FOOBARCAFEDEAD\xef\xbe\xad\xdeRVAT\0\0\0\x01\0\0\0\0",
-    )
-}
-
 // Fails unless a table has these structures this many times.
 pub(crate) fn holds(alloc: Global, hmat: HMAT, structures: &[u8], times: u32) -> Result<(), Fail> {
     many(alloc, &hmat, b"HMAT", 1, &[0; 4], structures, times)
@@ -61,16 +50,6 @@ pub(crate) const PROXIMITY: &[u8] =
 #[test]
 fn a_proximity(rt: HostRuntime) -> Result<(), Fail> {
     writes(rt.alloc(), &proximity(), PROXIMITY)
-}
-
-#[test]
-fn many_proximities(rt: HostRuntime) -> Result<(), Fail> {
-    let mut hmat = table(rt.alloc());
-    for _ in 0..300u16 {
-        hmat.add_memory_proximity(proximity())?;
-    }
-    is_sized((hmat.len(), hmat.count()), 40, 40, 300)?;
-    holds(rt.alloc(), hmat, PROXIMITY, 300)
 }
 
 // The first sizes past 2^32 - 1 bytes, and some that don't fit a machine word.
@@ -116,12 +95,15 @@ fn flags(alloc: Global, made: &SystemLocality, number: u8) -> Result<(), Fail> {
     writes(alloc, made, &wanted)
 }
 
-// Fails unless setting both flags of a locality, and the first one twice, makes these flags.
+// Fails unless setting both flags of a locality of this type, and the first one twice, makes these flags. The number of the type
+// is that without flags.
 fn sets_flags(
     alloc: Global,
     made: &mut SystemLocality,
+    kind: LocalityType,
     [none, first, both]: [u8; 3],
 ) -> Result<(), Fail> {
+    equal(&(kind as u32), &u32::from(none))?;
     flags(alloc, made, none)?;
     made.non_sequential_transfers();
     flags(alloc, made, first)?;
@@ -147,7 +129,7 @@ fn locality_types_and_flags(rt: HostRuntime) -> Result<(), Fail> {
         (LocalityType::SecondLevelCache, [2, 0x22, 0x32], 0x12),
         (LocalityType::ThirdLevelCache, [3, 0x23, 0x33], 0x13),
     ] {
-        sets_flags(rt.alloc(), &mut flagged(rt.alloc(), kind)?, numbers)?;
+        sets_flags(rt.alloc(), &mut flagged(rt.alloc(), kind)?, kind, numbers)?;
         sets_second(rt.alloc(), &mut flagged(rt.alloc(), kind)?, second)?;
     }
     Ok(())
@@ -171,6 +153,7 @@ fn data_types(rt: HostRuntime) -> Result<(), Fail> {
         let mut wanted =
             *b"\x01\0\0\0\x20\0\0\0\0\0\x01\0\0\0\0\0\0\0\0\0\0\0\0\0\x01\0\0\0\0\0\0\0";
         wanted[9] = number;
+        equal(&(data_type as u32), &u32::from(number))?;
         makes(rt.alloc(), typed(rt.alloc(), data_type), &wanted)?;
     }
     Ok(())
@@ -200,6 +183,7 @@ fn transfer_sizes(rt: HostRuntime) -> Result<(), Fail> {
         let mut wanted =
             *b"\x01\0\0\0\x20\0\0\0\x01\x01\0\0\0\0\0\0\0\0\0\0\0\0\0\0\0\0\0\0\0\0\0\0";
         wanted[10] = number;
+        equal(&(size as u32), &u32::from(number))?;
         makes(rt.alloc(), transferred(rt.alloc(), size), &wanted)?;
     }
     Ok(())
@@ -229,6 +213,7 @@ fn proximities_are_read(alloc: Global, hmat: &mut HMAT, count: u16) -> Result<()
         append(&domain, &mut added)?;
         hmat.add_memory_proximity(domain)?;
     }
+    is_sized((hmat.len(), hmat.count()), 40, 40, count)?;
     reads_back(alloc, hmat, 40, 40, &added)
 }
 

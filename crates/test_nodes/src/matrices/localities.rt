@@ -50,47 +50,6 @@ fn becomes(
     writes(alloc, &made, wanted)
 }
 
-#[test]
-fn three_by_two(rt: HostRuntime) -> Result<(), Fail> {
-    becomes(
-        rt.alloc(),
-        locality(rt.alloc(), 3, 2)?,
-        &[],
-        &[],
-        b"\x01\0\0\0\x40\0\0\0\x03\x05\x0b\0\x03\0\0\0\
-            \x02\0\0\0\0\0\0\0\x01\x02\x03\x04\x05\x06\x07\x08\
-            \0\0\0\0\0\0\0\0\0\0\0\0\0\0\0\0\
-            \0\0\0\0\xff\xff\xff\xff\xff\xff\xff\xff\xff\xff\xff\xff",
-    )
-}
-
-// The bytes are the same before and after the refusals.
-#[test]
-fn values_outside_of_three_by_two(rt: HostRuntime) -> Result<(), Fail> {
-    let last = [Value::Entry(2, 1, 10)];
-    let bytes = b"\x01\0\0\0\x40\0\0\0\x03\x05\x0b\0\x03\0\0\0\
-            \x02\0\0\0\0\0\0\0\x01\x02\x03\x04\x05\x06\x07\x08\
-            \0\0\0\0\0\0\0\0\0\0\0\0\0\0\0\0\
-            \0\0\0\0\xff\xff\xff\xff\xff\xff\xff\xff\xff\xff\x0a\0";
-    becomes(rt.alloc(), locality(rt.alloc(), 3, 2)?, &last, &[], bytes)?;
-    let outside = [
-        Value::Entry(0, 2, 1),
-        Value::Entry(3, 0, 1),
-        Value::Entry(usize::MAX, usize::MAX, 1),
-        Value::Initiator(3, 1),
-        Value::Initiator(usize::MAX, 1),
-        Value::Target(2, 1),
-        Value::Target(usize::MAX, 1),
-    ];
-    becomes(
-        rt.alloc(),
-        locality(rt.alloc(), 3, 2)?,
-        &last,
-        &outside,
-        bytes,
-    )
-}
-
 // All values of a matrix of three by two. Its last entry is set twice.
 const ALL: [Value; 12] = [
     Value::Entry(2, 1, 10),
@@ -112,10 +71,68 @@ const FULL: &[u8] = b"\x01\0\0\0\x40\0\0\0\x03\x05\x0b\0\x03\0\0\0\
             !\x22#$1234ABCDQRST\
             abcd\x71\x72\x81\x82\x91\x92\xa1\xa2\xb1\xb2\xc1\xc2";
 
+// The values outside of a matrix of three by two.
+const OUTSIDE: [Value; 7] = [
+    Value::Entry(0, 2, 1),
+    Value::Entry(3, 0, 1),
+    Value::Entry(usize::MAX, usize::MAX, 1),
+    Value::Initiator(3, 1),
+    Value::Initiator(usize::MAX, 1),
+    Value::Target(2, 1),
+    Value::Target(usize::MAX, 1),
+];
+
+// Three by two, whose last entry is 10.
+const LAST: &[u8] = b"\x01\0\0\0\x40\0\0\0\x03\x05\x0b\0\x03\0\0\0\
+            \x02\0\0\0\0\0\0\0\x01\x02\x03\x04\x05\x06\x07\x08\
+            \0\0\0\0\0\0\0\0\0\0\0\0\0\0\0\0\
+            \0\0\0\0\xff\xff\xff\xff\xff\xff\xff\xff\xff\xff\x0a\0";
+
+// Numbers of initiators and of targets, values that are set, values that are refused, and the bytes then.
+type Matrix = (
+    usize,
+    usize,
+    &'static [Value],
+    &'static [Value],
+    &'static [u8],
+);
+
+// The bytes of three by two are the same before and after the refusals.
+#[rattlefmt::skip]
+const MATRICES: [Matrix; 9] = [
+    (3, 2, &[], &[],
+        b"\x01\0\0\0\x40\0\0\0\x03\x05\x0b\0\x03\0\0\0\
+            \x02\0\0\0\0\0\0\0\x01\x02\x03\x04\x05\x06\x07\x08\
+            \0\0\0\0\0\0\0\0\0\0\0\0\0\0\0\0\
+            \0\0\0\0\xff\xff\xff\xff\xff\xff\xff\xff\xff\xff\xff\xff"),
+    (3, 2, &[Value::Entry(2, 1, 10)], &[], LAST),
+    (3, 2, &[Value::Entry(2, 1, 10)], &OUTSIDE, LAST),
+    (3, 2, &ALL, &[], FULL),
+    // a row of three targets
+    (1, 3, &[Value::Entry(0, 1, 0x0201), Value::Target(2, 7)], &[Value::Entry(1, 0, 1), Value::Initiator(1, 1)],
+        b"\x01\0\0\0\x36\0\0\0\x03\x05\x0b\0\x01\0\0\0\
+            \x03\0\0\0\0\0\0\0\x01\x02\x03\x04\x05\x06\x07\x08\
+            \0\0\0\0\0\0\0\0\0\0\0\0\x07\0\0\0\xff\xff\x01\x02\xff\xff"),
+    // a column of three initiators
+    (3, 1, &[Value::Entry(1, 0, 0x0201), Value::Initiator(2, 7)], &[Value::Entry(0, 1, 1), Value::Target(1, 1)],
+        b"\x01\0\0\0\x36\0\0\0\x03\x05\x0b\0\x03\0\0\0\
+            \x01\0\0\0\0\0\0\0\x01\x02\x03\x04\x05\x06\x07\x08\
+            \0\0\0\0\0\0\0\0\x07\0\0\0\0\0\0\0\xff\xff\x01\x02\xff\xff"),
+    (0, 0, &[], &[Value::Entry(0, 0, 1), Value::Initiator(0, 1), Value::Target(0, 1)],
+        b"\x01\0\0\0\x20\0\0\0\x03\x05\x0b\0\0\0\0\0\0\0\0\0\0\0\0\0\x01\x02\x03\x04\x05\x06\x07\x08"),
+    (0, 2, &[Value::Target(1, 9)], &[Value::Entry(0, 0, 1)],
+        b"\x01\0\0\0\x28\0\0\0\x03\x05\x0b\0\0\0\0\0\x02\0\0\0\0\0\0\0\x01\x02\x03\x04\x05\x06\x07\x08\0\0\0\0\x09\0\0\0"),
+    (2, 0, &[Value::Initiator(1, 9)], &[Value::Entry(0, 0, 1)],
+        b"\x01\0\0\0\x28\0\0\0\x03\x05\x0b\0\x02\0\0\0\0\0\0\0\0\0\0\0\x01\x02\x03\x04\x05\x06\x07\x08\0\0\0\0\x09\0\0\0"),
+];
+
 #[test]
-fn all_values_of_three_by_two(rt: HostRuntime) -> Result<(), Fail> {
-    let made = locality(rt.alloc(), 3, 2)?;
-    becomes(rt.alloc(), made, &ALL, &[], FULL)
+fn matrices(rt: HostRuntime) -> Result<(), Fail> {
+    for (initiators, targets, values, outside, wanted) in &MATRICES {
+        let made = locality(rt.alloc(), *initiators, *targets)?;
+        becomes(rt.alloc(), made, *values, *outside, *wanted)?;
+    }
+    Ok(())
 }
 
 fn full(alloc: Global) -> Result<SystemLocality, Fail> {
@@ -129,67 +146,4 @@ fn a_table_of_three_by_two(rt: HostRuntime) -> Result<(), Fail> {
     let mut hmat = table(rt.alloc());
     hmat.add_system_locality(full(rt.alloc())?)?;
     holds(rt.alloc(), hmat, FULL, 1)
-}
-
-#[test]
-fn a_row_of_three_targets(rt: HostRuntime) -> Result<(), Fail> {
-    becomes(
-        rt.alloc(),
-        locality(rt.alloc(), 1, 3)?,
-        &[Value::Entry(0, 1, 0x0201), Value::Target(2, 7)],
-        &[Value::Entry(1, 0, 1), Value::Initiator(1, 1)],
-        b"\x01\0\0\0\x36\0\0\0\x03\x05\x0b\0\x01\0\0\0\
-            \x03\0\0\0\0\0\0\0\x01\x02\x03\x04\x05\x06\x07\x08\
-            \0\0\0\0\0\0\0\0\0\0\0\0\x07\0\0\0\xff\xff\x01\x02\xff\xff",
-    )
-}
-
-#[test]
-fn a_column_of_three_initiators(rt: HostRuntime) -> Result<(), Fail> {
-    becomes(
-        rt.alloc(),
-        locality(rt.alloc(), 3, 1)?,
-        &[Value::Entry(1, 0, 0x0201), Value::Initiator(2, 7)],
-        &[Value::Entry(0, 1, 1), Value::Target(1, 1)],
-        b"\x01\0\0\0\x36\0\0\0\x03\x05\x0b\0\x03\0\0\0\
-            \x01\0\0\0\0\0\0\0\x01\x02\x03\x04\x05\x06\x07\x08\
-            \0\0\0\0\0\0\0\0\x07\0\0\0\0\0\0\0\xff\xff\x01\x02\xff\xff",
-    )
-}
-
-#[test]
-fn without_initiators_and_targets(rt: HostRuntime) -> Result<(), Fail> {
-    becomes(
-        rt.alloc(),
-        locality(rt.alloc(), 0, 0)?,
-        &[],
-        &[
-            Value::Entry(0, 0, 1),
-            Value::Initiator(0, 1),
-            Value::Target(0, 1),
-        ],
-        b"\x01\0\0\0\x20\0\0\0\x03\x05\x0b\0\0\0\0\0\0\0\0\0\0\0\0\0\x01\x02\x03\x04\x05\x06\x07\x08",
-    )
-}
-
-#[test]
-fn without_initiators(rt: HostRuntime) -> Result<(), Fail> {
-    becomes(
-        rt.alloc(),
-        locality(rt.alloc(), 0, 2)?,
-        &[Value::Target(1, 9)],
-        &[Value::Entry(0, 0, 1)],
-        b"\x01\0\0\0\x28\0\0\0\x03\x05\x0b\0\0\0\0\0\x02\0\0\0\0\0\0\0\x01\x02\x03\x04\x05\x06\x07\x08\0\0\0\0\x09\0\0\0",
-    )
-}
-
-#[test]
-fn without_targets(rt: HostRuntime) -> Result<(), Fail> {
-    becomes(
-        rt.alloc(),
-        locality(rt.alloc(), 2, 0)?,
-        &[Value::Initiator(1, 9)],
-        &[Value::Entry(0, 0, 1)],
-        b"\x01\0\0\0\x28\0\0\0\x03\x05\x0b\0\x02\0\0\0\0\0\0\0\0\0\0\0\x01\x02\x03\x04\x05\x06\x07\x08\0\0\0\0\x09\0\0\0",
-    )
 }

@@ -75,46 +75,23 @@ fn attributes(alloc: Global, cache: MemorySideCache, wanted: [u8; 4]) -> Result<
     writes(alloc, &cache, &bytes)
 }
 
+// The numbers of the enums are compared alone, too.
 #[test]
+#[rattlefmt::skip]
 fn cache_attributes(rt: HostRuntime) -> Result<(), Fail> {
-    let alloc = rt.alloc();
     let all = [
-        (
-            CacheLevel::None,
-            CacheLevel::Three,
-            Associativity::Complex,
-            WritePolicy::None,
-            0,
-            [0x30, 0x02, 0, 0],
-        ),
-        (
-            CacheLevel::One,
-            CacheLevel::None,
-            Associativity::None,
-            WritePolicy::Writethrough,
-            0xffff,
-            [0x01, 0x20, 0xff, 0xff],
-        ),
-        (
-            CacheLevel::Two,
-            CacheLevel::One,
-            Associativity::DirectMapped,
-            WritePolicy::Writeback,
-            0x0201,
-            [0x12, 0x11, 0x01, 0x02],
-        ),
-        (
-            CacheLevel::Three,
-            CacheLevel::Two,
-            Associativity::Complex,
-            WritePolicy::Writethrough,
-            1,
-            [0x23, 0x22, 0x01, 0],
-        ),
+        (CacheLevel::None, CacheLevel::Three, Associativity::Complex, WritePolicy::None, 0, [0, 3, 2, 0], *b"\x30\x02\0\0"),
+        (CacheLevel::One, CacheLevel::None, Associativity::None, WritePolicy::Writethrough, 0xffff, [1, 0, 0, 2],
+            *b"\x01\x20\xff\xff"),
+        (CacheLevel::Two, CacheLevel::One, Associativity::DirectMapped, WritePolicy::Writeback, 0x0201, [2, 1, 1, 1],
+            *b"\x12\x11\x01\x02"),
+        (CacheLevel::Three, CacheLevel::Two, Associativity::Complex, WritePolicy::Writethrough, 1, [3, 2, 2, 2],
+            *b"\x23\x22\x01\0"),
     ];
-    for (total, this, spread, policy, line, wanted) in all {
-        let cache = MemorySideCache::new(alloc, 0, 0, total, this, spread, policy, line);
-        attributes(alloc, cache, wanted)?;
+    for (total, this, spread, policy, line, numbers, wanted) in all {
+        equal(&[total as u32, this as u32, spread as u32, policy as u32], &numbers)?;
+        let cache = MemorySideCache::new(rt.alloc(), 0, 0, total, this, spread, policy, line);
+        attributes(rt.alloc(), cache, wanted)?;
     }
     Ok(())
 }

@@ -39,45 +39,43 @@ fn becomes(
     writes(alloc, &slit, wanted)
 }
 
-#[test]
-fn no_localities(rt: HostRuntime) -> Result<(), Fail> {
-    becomes(
-        rt.alloc(),
-        table(rt.alloc(), 0)?,
-        &[],
-        &[(0, 0)],
-        b"SLIT\x2c\0\0\0\x01\x4bFOOBARCAFEDEAD\xef\xbe\xad\xdeRVAT\0\0\0\x01\0\0\0\0\0\0\0\0",
-    )
-}
+// A number of localities, distances that are set, places that are refused, and the bytes then.
+type Localities = (
+    u32,
+    &'static [(usize, usize, u8)],
+    &'static [(usize, usize)],
+    &'static [u8],
+);
+
+// Two localities, whose first distance is 20.
+const TWO: &[u8] =
+    b"SLIT\x30\0\0\0\x01\x13FOOBARCAFEDEAD\xef\xbe\xad\xdeRVAT\0\0\0\x01\x02\0\0\0\0\0\0\0\x14\x0a\x0a\x0a";
+
+// The bytes of two localities are the same before and after the refusals. Each distance is at both places, and the last that was
+// set is there.
+#[rattlefmt::skip]
+const TABLES: [Localities; 6] = [
+    (0, &[], &[(0, 0)],
+        b"SLIT\x2c\0\0\0\x01\x4bFOOBARCAFEDEAD\xef\xbe\xad\xdeRVAT\0\0\0\x01\0\0\0\0\0\0\0\0"),
+    (1, &[(0, 0, 11)], &[(1, 0), (0, 1)],
+        b"SLIT\x2d\0\0\0\x01\x3eFOOBARCAFEDEAD\xef\xbe\xad\xdeRVAT\0\0\0\x01\x01\0\0\0\0\0\0\0\x0b"),
+    (2, &[], &[],
+        b"SLIT\x30\0\0\0\x01\x1dFOOBARCAFEDEAD\xef\xbe\xad\xdeRVAT\0\0\0\x01\x02\0\0\0\0\0\0\0\x0a\x0a\x0a\x0a"),
+    (2, &[(0, 0, 20)], &[], TWO),
+    (2, &[(0, 0, 20)], &[(0, 2), (2, 0), (2, 2), (0, usize::MAX), (usize::MAX, 1)], TWO),
+    (3, &[(0, 1, 99), (1, 0, 21), (0, 2, 31), (2, 1, UNREACHABLE_LOCALITY), (1, 1, 98), (1, 1, 11), (2, 2, 12)], &[],
+        b"SLIT\x35\0\0\0\x01\xb8FOOBARCAFEDEAD\xef\xbe\xad\xdeRVAT\0\0\0\x01\
+            \x03\0\0\0\0\0\0\0\
+            \x0a\x15\x1f\x15\x0b\xff\x1f\xff\x0c"),
+];
 
 #[test]
-fn one_locality(rt: HostRuntime) -> Result<(), Fail> {
-    let mut slit = table(rt.alloc(), 1)?;
-    takes(&mut slit, &[(0, 0, 11)], &[(1, 0), (0, 1)])?;
-    let fixed = b"\x01\0\0\0\0\0\0\0";
-    many(rt.alloc(), &slit, b"SLIT", 1, fixed, b"\x0b", 1)
-}
-
-#[test]
-fn two_localities(rt: HostRuntime) -> Result<(), Fail> {
-    becomes(
-        rt.alloc(),
-        table(rt.alloc(), 2)?,
-        &[],
-        &[],
-        b"SLIT\x30\0\0\0\x01\x1dFOOBARCAFEDEAD\xef\xbe\xad\xdeRVAT\0\0\0\x01\x02\0\0\0\0\0\0\0\x0a\x0a\x0a\x0a",
-    )
-}
-
-// The bytes are the same before and after the refusals.
-#[test]
-fn distances_outside_of_two_localities(rt: HostRuntime) -> Result<(), Fail> {
-    let bytes =
-        b"SLIT\x30\0\0\0\x01\x13FOOBARCAFEDEAD\xef\xbe\xad\xdeRVAT\0\0\0\x01\x02\0\0\0\0\0\0\0\x14\x0a\x0a\x0a";
-    let set = [(0, 0, 20)];
-    becomes(rt.alloc(), table(rt.alloc(), 2)?, &set, &[], bytes)?;
-    let outside = [(0, 2), (2, 0), (2, 2), (0, usize::MAX), (usize::MAX, 1)];
-    becomes(rt.alloc(), table(rt.alloc(), 2)?, &set, &outside, bytes)
+fn few_localities(rt: HostRuntime) -> Result<(), Fail> {
+    for (localities, distances, outside, wanted) in &TABLES {
+        let slit = table(rt.alloc(), *localities)?;
+        becomes(rt.alloc(), slit, *distances, *outside, *wanted)?;
+    }
+    Ok(())
 }
 
 // The numbers of bytes and of localities, also past 255.
@@ -88,33 +86,6 @@ fn sizes(rt: HostRuntime) -> Result<(), Fail> {
         equal(&(slit.localities(), slit.len()), &(localities, size))?;
     }
     Ok(())
-}
-
-// Each distance is at both places, and the last that was set is there.
-#[test]
-fn three_localities(rt: HostRuntime) -> Result<(), Fail> {
-    becomes(
-        rt.alloc(),
-        table(rt.alloc(), 3)?,
-        &[
-            (0, 1, 99),
-            (1, 0, 21),
-            (0, 2, 31),
-            (2, 1, UNREACHABLE_LOCALITY),
-            (1, 1, 98),
-            (1, 1, 11),
-            (2, 2, 12),
-        ],
-        &[],
-        b"SLIT\x35\0\0\0\x01\xb8FOOBARCAFEDEAD\xef\xbe\xad\xdeRVAT\0\0\0\x01\
-            \x03\0\0\0\0\0\0\0\
-            \x0a\x15\x1f\x15\x0b\xff\x1f\xff\x0c",
-    )
-}
-
-#[test]
-fn unreachable_localities() -> Result<(), Fail> {
-    equal(&UNREACHABLE_LOCALITY, &255)
 }
 
 #[test]

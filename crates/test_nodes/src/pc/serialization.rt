@@ -22,41 +22,9 @@ fn step(action: Action, instruction: Instruction) -> SerializationEntry {
 
 // Fails unless an entry has these first three bytes, and the values of `step` after them.
 fn begins(alloc: Global, entry: SerializationEntry, first: [u8; 3]) -> Result<(), Fail> {
-    let [action, instruction, flags] = first;
-    let wanted = [
-        action,
-        instruction,
-        flags,
-        0,
-        1,
-        8,
-        3,
-        2,
-        1,
-        2,
-        3,
-        4,
-        5,
-        6,
-        7,
-        8,
-        0x11,
-        0x12,
-        0x13,
-        0x14,
-        0x15,
-        0x16,
-        0x17,
-        0x18,
-        0x21,
-        0x22,
-        0x23,
-        0x24,
-        0x25,
-        0x26,
-        0x27,
-        0x28,
-    ];
+    let mut wanted = *b"\0\0\0\0\x01\x08\x03\x02\x01\x02\x03\x04\x05\x06\x07\x08\
+        \x11\x12\x13\x14\x15\x16\x17\x18\x21\x22\x23\x24\x25\x26\x27\x28";
+    wanted[..3].copy_from_slice(&first);
     writes(alloc, &entry, &wanted)
 }
 
@@ -125,202 +93,41 @@ const LOW: u64 = 0xffff_ffff;
 const ALL: u64 = 0xffff_ffff_ffff_ffff;
 
 // The entries of the table that QEMU 7.2 writes for this device, whose registers of the action and of the value are at addresses.
+#[rattlefmt::skip]
 fn add_entries(erst: &mut ERST, action: u64, value: u64) -> R<()> {
     let action = register(32, AccessSize::DwordAccess, action);
     let wide = register(64, AccessSize::QwordAccess, value);
     let value = register(32, AccessSize::DwordAccess, value);
     for (operation, instruction, register, number, mask) in &[
-        (
-            Action::BeginWrite,
-            Instruction::WriteRegisterValue,
-            action,
-            0,
-            LOW,
-        ),
-        (
-            Action::BeginRead,
-            Instruction::WriteRegisterValue,
-            action,
-            1,
-            LOW,
-        ),
-        (
-            Action::BeginClear,
-            Instruction::WriteRegisterValue,
-            action,
-            2,
-            LOW,
-        ),
+        (Action::BeginWrite, Instruction::WriteRegisterValue, action, 0, LOW),
+        (Action::BeginRead, Instruction::WriteRegisterValue, action, 1, LOW),
+        (Action::BeginClear, Instruction::WriteRegisterValue, action, 2, LOW),
         (Action::End, Instruction::WriteRegisterValue, action, 3, LOW),
-        (
-            Action::SetRecordOffset,
-            Instruction::WriteRegister,
-            value,
-            0,
-            LOW,
-        ),
-        (
-            Action::SetRecordOffset,
-            Instruction::WriteRegisterValue,
-            action,
-            4,
-            LOW,
-        ),
-        (
-            Action::Execute,
-            Instruction::WriteRegisterValue,
-            value,
-            0x9c,
-            LOW,
-        ),
-        (
-            Action::Execute,
-            Instruction::WriteRegisterValue,
-            action,
-            5,
-            LOW,
-        ),
-        (
-            Action::CheckBusyStatus,
-            Instruction::WriteRegisterValue,
-            action,
-            6,
-            LOW,
-        ),
-        (
-            Action::CheckBusyStatus,
-            Instruction::ReadRegisterValue,
-            value,
-            1,
-            LOW,
-        ),
-        (
-            Action::GetCommandStatus,
-            Instruction::WriteRegisterValue,
-            action,
-            7,
-            LOW,
-        ),
-        (
-            Action::GetCommandStatus,
-            Instruction::ReadRegister,
-            value,
-            0,
-            LOW,
-        ),
-        (
-            Action::GetRecordIdentifier,
-            Instruction::WriteRegisterValue,
-            action,
-            8,
-            LOW,
-        ),
-        (
-            Action::GetRecordIdentifier,
-            Instruction::ReadRegister,
-            wide,
-            0,
-            ALL,
-        ),
-        (
-            Action::SetRecordIdentifier,
-            Instruction::WriteRegister,
-            wide,
-            0,
-            ALL,
-        ),
-        (
-            Action::SetRecordIdentifier,
-            Instruction::WriteRegisterValue,
-            action,
-            9,
-            LOW,
-        ),
-        (
-            Action::GetRecordCount,
-            Instruction::WriteRegisterValue,
-            action,
-            10,
-            LOW,
-        ),
-        (
-            Action::GetRecordCount,
-            Instruction::ReadRegister,
-            value,
-            0,
-            LOW,
-        ),
-        (
-            Action::BeginDummyWrite,
-            Instruction::WriteRegisterValue,
-            action,
-            11,
-            LOW,
-        ),
-        (
-            Action::GetErrorLogAddressRange,
-            Instruction::WriteRegisterValue,
-            action,
-            13,
-            LOW,
-        ),
-        (
-            Action::GetErrorLogAddressRange,
-            Instruction::ReadRegister,
-            wide,
-            0,
-            ALL,
-        ),
-        (
-            Action::GetErrorLogAddressRangeLength,
-            Instruction::WriteRegisterValue,
-            action,
-            14,
-            LOW,
-        ),
-        (
-            Action::GetErrorLogAddressRangeLength,
-            Instruction::ReadRegister,
-            wide,
-            0,
-            ALL,
-        ),
-        (
-            Action::GetErrorLogAddressRangeAttributes,
-            Instruction::WriteRegisterValue,
-            action,
-            15,
-            LOW,
-        ),
-        (
-            Action::GetErrorLogAddressRangeAttributes,
-            Instruction::ReadRegister,
-            value,
-            0,
-            LOW,
-        ),
-        (
-            Action::GetExecuteTimings,
-            Instruction::WriteRegisterValue,
-            action,
-            16,
-            LOW,
-        ),
-        (
-            Action::GetExecuteTimings,
-            Instruction::ReadRegister,
-            wide,
-            0,
-            ALL,
-        ),
+        (Action::SetRecordOffset, Instruction::WriteRegister, value, 0, LOW),
+        (Action::SetRecordOffset, Instruction::WriteRegisterValue, action, 4, LOW),
+        (Action::Execute, Instruction::WriteRegisterValue, value, 0x9c, LOW),
+        (Action::Execute, Instruction::WriteRegisterValue, action, 5, LOW),
+        (Action::CheckBusyStatus, Instruction::WriteRegisterValue, action, 6, LOW),
+        (Action::CheckBusyStatus, Instruction::ReadRegisterValue, value, 1, LOW),
+        (Action::GetCommandStatus, Instruction::WriteRegisterValue, action, 7, LOW),
+        (Action::GetCommandStatus, Instruction::ReadRegister, value, 0, LOW),
+        (Action::GetRecordIdentifier, Instruction::WriteRegisterValue, action, 8, LOW),
+        (Action::GetRecordIdentifier, Instruction::ReadRegister, wide, 0, ALL),
+        (Action::SetRecordIdentifier, Instruction::WriteRegister, wide, 0, ALL),
+        (Action::SetRecordIdentifier, Instruction::WriteRegisterValue, action, 9, LOW),
+        (Action::GetRecordCount, Instruction::WriteRegisterValue, action, 10, LOW),
+        (Action::GetRecordCount, Instruction::ReadRegister, value, 0, LOW),
+        (Action::BeginDummyWrite, Instruction::WriteRegisterValue, action, 11, LOW),
+        (Action::GetErrorLogAddressRange, Instruction::WriteRegisterValue, action, 13, LOW),
+        (Action::GetErrorLogAddressRange, Instruction::ReadRegister, wide, 0, ALL),
+        (Action::GetErrorLogAddressRangeLength, Instruction::WriteRegisterValue, action, 14, LOW),
+        (Action::GetErrorLogAddressRangeLength, Instruction::ReadRegister, wide, 0, ALL),
+        (Action::GetErrorLogAddressRangeAttributes, Instruction::WriteRegisterValue, action, 15, LOW),
+        (Action::GetErrorLogAddressRangeAttributes, Instruction::ReadRegister, value, 0, LOW),
+        (Action::GetExecuteTimings, Instruction::WriteRegisterValue, action, 16, LOW),
+        (Action::GetExecuteTimings, Instruction::ReadRegister, wide, 0, ALL),
     ] {
-        erst.add_entry(SerializationEntry::new(
-            *operation,
-            *instruction,
-            *register,
-            *number,
-            *mask,
-        ))?;
+        erst.add_entry(SerializationEntry::new(*operation, *instruction, *register, *number, *mask))?;
     }
     Ok(())
 }

@@ -26,32 +26,35 @@ fn is(
     writes(alloc, aml, &table(alloc, signature, revision, &[wanted])?)
 }
 
-// A timer block of a PC.
+// Of a PC: a timer block, what the operating system needn't do, and the log of a TPM of version 1.2. The FACS has version 0.
 #[test]
-fn timers(rt: HostRuntime) -> Result<(), Fail> {
+fn of_a_pc(rt: HostRuntime) -> Result<(), Fail> {
     let id = EventTimerBlockId::new(1, 3, 0x8086)
         .wide_counter()
         .legacy_replacement();
     let (space, access) = (AddressSpace::SystemMemory, AccessSize::Undefined);
     let registers = GAS::new(space, 0, 0, access, 0xfed0_0000);
     let hpet = HPET::new(OEM, OEM_TABLE, OEM_REVISION, id, registers);
-    let wanted = b"\x01\xa2\x86\x80\0\0\0\0\0\0\xd0\xfe\0\0\0\0\0\0\0\0";
-    is(rt.alloc(), &hpet, b"HPET", 1, wanted)
-}
-
-// What a PC doesn't need to do.
-#[test]
-fn workarounds(rt: HostRuntime) -> Result<(), Fail> {
     let waet = WAET::new(OEM, OEM_TABLE, OEM_REVISION).pm_timer_good();
-    is(rt.alloc(), &waet, b"WAET", 1, b"\x02\0\0\0")
-}
-
-// The log of a TPM of version 1.2.
-#[test]
-fn log(rt: HostRuntime) -> Result<(), Fail> {
     let tcpa = TpmClient1_2::new(OEM, OEM_TABLE, OEM_REVISION, 0x1_0000, 0x7ff_0000);
-    let wanted = b"\0\0\0\0\x01\0\0\0\xff\x07\0\0\0\0";
-    is(rt.alloc(), &tcpa, b"TCPA", 2, wanted)
+    let rows: [(&dyn Aml, &[u8; 4], u8, &[u8]); 3] = [
+        (
+            &hpet,
+            b"HPET",
+            1,
+            b"\x01\xa2\x86\x80\0\0\0\0\0\0\xd0\xfe\0\0\0\0\0\0\0\0",
+        ),
+        (&waet, b"WAET", 1, b"\x02\0\0\0"),
+        (&tcpa, b"TCPA", 2, b"\0\0\0\0\x01\0\0\0\xff\x07\0\0\0\0"),
+    ];
+    for (aml, signature, revision, wanted) in rows {
+        is(rt.alloc(), aml, signature, revision, wanted)?;
+    }
+    let mut facs = FACS::new();
+    facs.version = 0;
+    let mut wanted = [0; 64];
+    wanted[..8].copy_from_slice(b"FACS\x40\0\0\0");
+    writes(rt.alloc(), &facs, &wanted)
 }
 
 // A Q35, and `virt`.
@@ -74,16 +77,6 @@ fn configuration_spaces(rt: HostRuntime) -> Result<(), Fail> {
         is(alloc, &mcfg, b"MCFG", 1, wanted)?;
     }
     Ok(())
-}
-
-// The FACS of a PC has version 0.
-#[test]
-fn shared_memory(rt: HostRuntime) -> Result<(), Fail> {
-    let mut facs = FACS::new();
-    facs.version = 0;
-    let mut wanted = [0; 64];
-    wanted[..8].copy_from_slice(b"FACS\x40\0\0\0");
-    writes(rt.alloc(), &facs, &wanted)
 }
 
 // The FADT of `virt`: hardware-reduced, with the calls of PSCI, and revision 6.0.

@@ -7,11 +7,7 @@ use acpi_tables::spcr::{
 use std::alloc::Global;
 use std::test::Fail;
 use test_support::table::patched;
-use test_support::{OEM, OEM_REVISION, OEM_TABLE, writes};
-
-fn port() -> SPCR<'static> {
-    of_type(InterfaceType::Uart16550)
-}
+use test_support::{OEM, OEM_REVISION, OEM_TABLE, equal, writes};
 
 fn of_type(interface: InterfaceType) -> SPCR<'static> {
     SPCR::new(OEM, OEM_TABLE, OEM_REVISION, interface, GAS::default())
@@ -26,7 +22,7 @@ const PORT: [u8; 90] = *b"SPCR\x5a\0\0\0\x04\x99FOOBARCAFEDEAD\xef\xbe\xad\xdeRV
 #[test]
 fn registers(rt: HostRuntime) -> Result<(), Fail> {
     let alloc = rt.alloc();
-    writes(alloc, &port(), &PORT)?;
+    writes(alloc, &of_type(InterfaceType::Uart16550), &PORT)?;
     let registers = GAS::new(
         AddressSpace::SystemMemory,
         32,
@@ -41,11 +37,6 @@ fn registers(rt: HostRuntime) -> Result<(), Fail> {
             \0\0\0\0\0\0\0\0\x01\0\0\0\xff\xff\xff\xff\
             \0\0\0\0\0\0\0\0\0\0\0\0\0\0\0\0\x02\0\x58\0.\0";
     writes(alloc, &arm, wanted)
-}
-
-// Fails unless a port is `PORT` with this part at this offset, and the right checksum.
-fn sets(alloc: Global, port: SPCR<'static>, offset: usize, part: &[u8]) -> Result<(), Fail> {
-    patched(alloc, &port, &PORT, &[(offset, part)])
 }
 
 #[test]
@@ -73,125 +64,119 @@ fn interface_types(rt: HostRuntime) -> Result<(), Fail> {
         (InterfaceType::IntelLpss, 0x14),
         (InterfaceType::RiscvSbi, 0x15),
     ] {
-        sets(rt.alloc(), of_type(interface), 36, &[number])?;
+        equal(&(interface as u8), &number)?;
+        patched(rt.alloc(), &of_type(interface), &PORT, &[(36, &[number])])?;
     }
     Ok(())
 }
 
-// Fails unless a port of one controller has its flag and this interrupt of it.
-fn has_one_controller(
-    alloc: Global,
-    controller: InterruptController,
-    flag: u8,
-) -> Result<(), Fail> {
-    let only = port().gsi(controller, 0x0403_0201);
-    sets(alloc, only, 52, &[flag, 0, 1, 2, 3, 4])?;
-    let only = port().gsi(controller, 0x0403_0201);
-    let both = only.irq(0xff).gsi(controller, u32::MAX).irq(9);
-    sets(alloc, both, 52, &[flag | 1, 9, 0xff, 0xff, 0xff, 0xff])
+// A call of a port's builder. The numbers of a PCI function are limited, so two functions are calls of their own.
+#[derive(Clone, Copy)]
+enum Call {
+    Irq(u8),
+    Gsi(InterruptController, u32),
+    BaudRate(BaudRate),
+    Parity(u8),
+    StopBits(u8),
+    FlowControl(FlowControl),
+    Terminal(TerminalType),
+    Language(u8),
+    PciIds(u16, u16),
+    FirstFunction,
+    LastFunction,
+    KeepsPnp,
+    Clock(u32),
+    PreciseRate(u32),
+}
+
+fn with_call(port: SPCR<'static>, call: Call) -> SPCR<'static> {
+    match call {
+        Call::Irq(irq) => port.irq(irq),
+        Call::Gsi(controller, gsi) => port.gsi(controller, gsi),
+        Call::BaudRate(rate) => port.baud_rate(rate),
+        Call::Parity(parity) => port.parity(parity),
+        Call::StopBits(bits) => port.stop_bits(bits),
+        Call::FlowControl(flow) => port.flow_control(flow),
+        Call::Terminal(terminal) => port.terminal_type(terminal),
+        Call::Language(language) => port.language(language),
+        Call::PciIds(device, vendor) => port.pci_ids(device, vendor),
+        Call::FirstFunction => port.pci_sbdf(5, 6, 7, 0),
+        Call::LastFunction => port.pci_sbdf(0xfe, 0xff, 31, 7),
+        Call::KeepsPnp => port.keeps_pnp(),
+        Call::Clock(frequency) => port.clock_frequency(frequency),
+        Call::PreciseRate(rate) => port.precise_baud_rate(rate),
+    }
+}
+
+// Calls, and the bytes that they set at an offset.
+#[rattlefmt::skip]
+const SETTINGS: [(&[Call], usize, &[u8]); 32] = [
+    (&[Call::Gsi(InterruptController::IoApic, 0x0403_0201)], 52, &[2, 0, 1, 2, 3, 4]),
+    (&[
+        Call::Gsi(InterruptController::IoApic, 0x0403_0201), Call::Irq(0xff),
+        Call::Gsi(InterruptController::IoApic, u32::MAX), Call::Irq(9),
+    ], 52, &[3, 9, 0xff, 0xff, 0xff, 0xff]),
+    (&[Call::Gsi(InterruptController::IoSapic, 0x0403_0201)], 52, &[4, 0, 1, 2, 3, 4]),
+    (&[
+        Call::Gsi(InterruptController::IoSapic, 0x0403_0201), Call::Irq(0xff),
+        Call::Gsi(InterruptController::IoSapic, u32::MAX), Call::Irq(9),
+    ], 52, &[5, 9, 0xff, 0xff, 0xff, 0xff]),
+    (&[Call::Gsi(InterruptController::ArmGic, 0x0403_0201)], 52, &[8, 0, 1, 2, 3, 4]),
+    (&[
+        Call::Gsi(InterruptController::ArmGic, 0x0403_0201), Call::Irq(0xff),
+        Call::Gsi(InterruptController::ArmGic, u32::MAX), Call::Irq(9),
+    ], 52, &[9, 9, 0xff, 0xff, 0xff, 0xff]),
+    (&[Call::Gsi(InterruptController::RiscvPlic, 0x0403_0201)], 52, &[16, 0, 1, 2, 3, 4]),
+    (&[
+        Call::Gsi(InterruptController::RiscvPlic, 0x0403_0201), Call::Irq(0xff),
+        Call::Gsi(InterruptController::RiscvPlic, u32::MAX), Call::Irq(9),
+    ], 52, &[17, 9, 0xff, 0xff, 0xff, 0xff]),
+    (&[Call::Irq(4)], 52, &[1, 4]),
+    (&[
+        Call::Gsi(InterruptController::IoApic, 1), Call::Gsi(InterruptController::IoSapic, 2),
+        Call::Gsi(InterruptController::ArmGic, 3), Call::Gsi(InterruptController::RiscvPlic, 4), Call::Irq(5),
+    ], 52, &[0x1f, 5, 4]),
+    (&[Call::BaudRate(BaudRate::Baud9600), Call::BaudRate(BaudRate::AsIs)], 58, &[0]),
+    (&[Call::BaudRate(BaudRate::Baud9600), Call::BaudRate(BaudRate::Baud9600)], 58, &[3]),
+    (&[Call::BaudRate(BaudRate::Baud9600), Call::BaudRate(BaudRate::Baud19200)], 58, &[4]),
+    (&[Call::BaudRate(BaudRate::Baud9600), Call::BaudRate(BaudRate::Baud57600)], 58, &[6]),
+    (&[Call::BaudRate(BaudRate::Baud9600), Call::BaudRate(BaudRate::Baud115200)], 58, &[7]),
+    (&[Call::Parity(0xa1)], 59, &[0xa1]),
+    (&[Call::StopBits(0xa2)], 60, &[0xa2]),
+    (&[Call::Language(0xa3)], 63, &[0xa3]),
+    (&[Call::FlowControl(FlowControl::Dcd)], 61, &[1]),
+    (&[Call::FlowControl(FlowControl::RtsCts)], 61, &[2]),
+    (&[Call::FlowControl(FlowControl::XonXoff)], 61, &[4]),
+    (&[
+        Call::FlowControl(FlowControl::XonXoff), Call::FlowControl(FlowControl::Dcd),
+        Call::FlowControl(FlowControl::Dcd), Call::FlowControl(FlowControl::RtsCts),
+    ], 61, &[7]),
+    (&[Call::Terminal(TerminalType::Vt100)], 62, &[0]),
+    (&[Call::Terminal(TerminalType::ExtendedVt100)], 62, &[1]),
+    (&[Call::Terminal(TerminalType::VtUtf8)], 62, &[2]),
+    (&[Call::Terminal(TerminalType::Ansi)], 62, &[3]),
+    (&[Call::PciIds(0x0201, 0x0403)], 64, &[1, 2, 3, 4]),
+    (&[Call::PciIds(0x0201, 0x0403), Call::FirstFunction, Call::KeepsPnp, Call::KeepsPnp],
+        64, &[1, 2, 3, 4, 6, 7, 0, 1, 0, 0, 0, 5]),
+    (&[Call::LastFunction], 68, &[0xff, 31, 7, 0, 0, 0, 0, 0xfe]),
+    (&[Call::Clock(0x0403_0201)], 76, &[1, 2, 3, 4]),
+    (&[Call::PreciseRate(0x0403_0201)], 80, &[1, 2, 3, 4]),
+    (&[Call::Clock(0x0403_0201), Call::PreciseRate(u32::MAX), Call::Clock(u32::MAX)], 76, &[0xff; 8]),
+];
+
+// Fails unless a port is `PORT` with this part at this offset after these calls, and has the right checksum.
+fn sets(alloc: Global, calls: &[Call], offset: usize, part: &[u8]) -> Result<(), Fail> {
+    let mut made = of_type(InterfaceType::Uart16550);
+    for call in calls {
+        made = with_call(made, *call);
+    }
+    patched(alloc, &made, &PORT, &[(offset, part)])
 }
 
 #[test]
-fn controllers_of_interrupts(rt: HostRuntime) -> Result<(), Fail> {
-    for (controller, flag) in [
-        (InterruptController::IoApic, 2),
-        (InterruptController::IoSapic, 4),
-        (InterruptController::ArmGic, 8),
-        (InterruptController::RiscvPlic, 16),
-    ] {
-        has_one_controller(rt.alloc(), controller, flag)?;
+fn settings(rt: HostRuntime) -> Result<(), Fail> {
+    for (calls, offset, part) in SETTINGS {
+        sets(rt.alloc(), calls, offset, part)?;
     }
     Ok(())
-}
-
-#[test]
-fn interrupts(rt: HostRuntime) -> Result<(), Fail> {
-    sets(rt.alloc(), port().irq(4), 52, &[1, 4])?;
-    let all = port()
-        .gsi(InterruptController::IoApic, 1)
-        .gsi(InterruptController::IoSapic, 2)
-        .gsi(InterruptController::ArmGic, 3)
-        .gsi(InterruptController::RiscvPlic, 4)
-        .irq(5);
-    sets(rt.alloc(), all, 52, &[0x1f, 5, 4])
-}
-
-#[test]
-fn baud_rates(rt: HostRuntime) -> Result<(), Fail> {
-    let alloc = rt.alloc();
-    for (rate, number) in [
-        (BaudRate::AsIs, 0),
-        (BaudRate::Baud9600, 3),
-        (BaudRate::Baud19200, 4),
-        (BaudRate::Baud57600, 6),
-        (BaudRate::Baud115200, 7),
-    ] {
-        let port = port().baud_rate(BaudRate::Baud9600).baud_rate(rate);
-        sets(alloc, port, 58, &[number])?;
-    }
-    Ok(())
-}
-
-#[test]
-fn line_settings(rt: HostRuntime) -> Result<(), Fail> {
-    sets(rt.alloc(), port().parity(0xa1), 59, &[0xa1])?;
-    sets(rt.alloc(), port().stop_bits(0xa2), 60, &[0xa2])?;
-    sets(rt.alloc(), port().language(0xa3), 63, &[0xa3])
-}
-
-#[test]
-fn flow_control(rt: HostRuntime) -> Result<(), Fail> {
-    for (flow, number) in [
-        (FlowControl::Dcd, 1),
-        (FlowControl::RtsCts, 2),
-        (FlowControl::XonXoff, 4),
-    ] {
-        sets(rt.alloc(), port().flow_control(flow), 61, &[number])?;
-    }
-    let joined = port()
-        .flow_control(FlowControl::XonXoff)
-        .flow_control(FlowControl::Dcd)
-        .flow_control(FlowControl::Dcd)
-        .flow_control(FlowControl::RtsCts);
-    sets(rt.alloc(), joined, 61, &[7])
-}
-
-#[test]
-fn terminals(rt: HostRuntime) -> Result<(), Fail> {
-    for (terminal, number) in [
-        (TerminalType::Vt100, 0),
-        (TerminalType::ExtendedVt100, 1),
-        (TerminalType::VtUtf8, 2),
-        (TerminalType::Ansi, 3),
-    ] {
-        sets(rt.alloc(), port().terminal_type(terminal), 62, &[number])?;
-    }
-    Ok(())
-}
-
-#[test]
-fn pci_devices(rt: HostRuntime) -> Result<(), Fail> {
-    let ids = port().pci_ids(0x0201, 0x0403);
-    sets(rt.alloc(), ids, 64, &[1, 2, 3, 4])?;
-    let full = port()
-        .pci_ids(0x0201, 0x0403)
-        .pci_sbdf(5, 6, 7, 0)
-        .keeps_pnp()
-        .keeps_pnp();
-    sets(rt.alloc(), full, 64, &[1, 2, 3, 4, 6, 7, 0, 1, 0, 0, 0, 5])?;
-    let last = port().pci_sbdf(0xfe, 0xff, 31, 7);
-    sets(rt.alloc(), last, 68, &[0xff, 31, 7, 0, 0, 0, 0, 0xfe])
-}
-
-#[test]
-fn frequencies(rt: HostRuntime) -> Result<(), Fail> {
-    let clock = port().clock_frequency(0x0403_0201);
-    sets(rt.alloc(), clock, 76, &[1, 2, 3, 4])?;
-    let rate = port().precise_baud_rate(0x0403_0201);
-    sets(rt.alloc(), rate, 80, &[1, 2, 3, 4])?;
-    let most = port()
-        .clock_frequency(0x0403_0201)
-        .precise_baud_rate(u32::MAX)
-        .clock_frequency(u32::MAX);
-    sets(rt.alloc(), most, 76, &[0xff; 8])
 }

@@ -28,26 +28,6 @@ fn tcpa(rt: HostRuntime) -> Result<(), Fail> {
     writes(rt.alloc(), &client, wanted)
 }
 
-// Fails unless a table is `SERVER` with these parts at their offsets, and the right checksum.
-fn sets(alloc: Global, table: TpmServer1_2, parts: &[(usize, &[u8])]) -> Result<(), Fail> {
-    patched(alloc, &table, &SERVER, parts)
-}
-
-// Each setter changes its own bytes and flags, and the checksum.
-#[test]
-fn tcpa_setters(rt: HostRuntime) -> Result<(), Fail> {
-    let alloc = rt.alloc();
-    let server = TpmServer1_2::new(OEM, OEM_TABLE, OEM_REVISION);
-    let area = b"\x01\x02\x03\x04\x05\x06\x07\x08\x09\x0a\x0b\x0c\x0d\x0e\x0f\x10";
-    let log = server.log_area(0x0807_0605_0403_0201, 0x100f_0e0d_0c0b_0a09);
-    sets(alloc, log, &[(40, area)])?;
-    sets(alloc, server.active_low(), &[(59, &[2])])?;
-    sets(alloc, server.edge_triggered(), &[(59, &[1])])?;
-    sets(alloc, server.sci_gpe(7), &[(59, &[4, 7])])?;
-    let parts: [(usize, &[u8]); 2] = [(59, &[8]), (64, &[1, 2, 3, 4])];
-    sets(alloc, server.gsi(0x0403_0201), &parts)
-}
-
 const REGISTER: GAS = GAS {
     address_space_id: AddressSpace::SystemIo,
     register_bit_width: 8,
@@ -56,30 +36,33 @@ const REGISTER: GAS = GAS {
     address: 0x0807_0605_0403_0201,
 };
 
+// Each setter changes its own bytes and flags, and the checksum.
 #[test]
-fn tcpa_setters_of_the_device(rt: HostRuntime) -> Result<(), Fail> {
-    let alloc = rt.alloc();
+fn tcpa_setters(rt: HostRuntime) -> Result<(), Fail> {
     let server = TpmServer1_2::new(OEM, OEM_TABLE, OEM_REVISION);
+    let area = b"\x01\x02\x03\x04\x05\x06\x07\x08\x09\x0a\x0b\x0c\x0d\x0e\x0f\x10";
     let register = [1, 8, 3, 2, 1, 2, 3, 4, 5, 6, 7, 8];
-    sets(alloc, server.bus_is_pnp(), &[(58, &[2])])?;
-    let parts: [(usize, &[u8]); 2] = [(58, &[1]), (96, &[1, 2, 31, 7])];
-    sets(alloc, server.pci_sbdf(1, 2, 31, 7), &parts)?;
-    sets(alloc, server.base_addr(REGISTER), &[(68, &register)])?;
-    let parts: [(usize, &[u8]); 2] = [(58, &[4]), (84, &register)];
-    sets(alloc, server.config_addr(REGISTER), &parts)
-}
-
-#[test]
-fn tcpa_setters_together(rt: HostRuntime) -> Result<(), Fail> {
-    let all = TpmServer1_2::new(OEM, OEM_TABLE, OEM_REVISION)
-        .active_low()
-        .edge_triggered()
-        .sci_gpe(1)
-        .gsi(2)
-        .bus_is_pnp()
-        .pci_sbdf(0, 0, 0, 0)
-        .config_addr(REGISTER);
-    stands(rt.alloc(), &all, 58, b"\x07\x0f\x01")
+    let rows: [(TpmServer1_2, &[(usize, &[u8])]); 9] = [
+        (
+            server.log_area(0x0807_0605_0403_0201, 0x100f_0e0d_0c0b_0a09),
+            &[(40, area)],
+        ),
+        (server.active_low(), &[(59, &[2])]),
+        (server.edge_triggered(), &[(59, &[1])]),
+        (server.sci_gpe(7), &[(59, &[4, 7])]),
+        (server.gsi(0x0403_0201), &[(59, &[8]), (64, &[1, 2, 3, 4])]),
+        (server.bus_is_pnp(), &[(58, &[2])]),
+        (
+            server.pci_sbdf(1, 2, 31, 7),
+            &[(58, &[1]), (96, &[1, 2, 31, 7])],
+        ),
+        (server.base_addr(REGISTER), &[(68, &register)]),
+        (server.config_addr(REGISTER), &[(58, &[4]), (84, &register)]),
+    ];
+    for (table, parts) in rows {
+        patched(rt.alloc(), &table, &SERVER, parts)?;
+    }
+    Ok(())
 }
 
 // The flags of the device and of its interrupt after several setters, and after one that is called twice.
@@ -87,7 +70,15 @@ fn tcpa_setters_together(rt: HostRuntime) -> Result<(), Fail> {
 fn joined_setters(rt: HostRuntime) -> Result<(), Fail> {
     let server = TpmServer1_2::new(OEM, OEM_TABLE, OEM_REVISION);
     let port = GAS::default();
-    for (table, flags) in [
+    let together = server
+        .active_low()
+        .edge_triggered()
+        .sci_gpe(1)
+        .gsi(2)
+        .bus_is_pnp()
+        .pci_sbdf(0, 0, 0, 0)
+        .config_addr(REGISTER);
+    let rows: [(TpmServer1_2, &[u8]); 20] = [
         (server.edge_triggered().active_low(), b"\0\x03"),
         (server.active_low().edge_triggered(), b"\0\x03"),
         (server.active_low().active_low(), b"\0\x02"),
@@ -107,7 +98,9 @@ fn joined_setters(rt: HostRuntime) -> Result<(), Fail> {
         (server.config_addr(port).pci_sbdf(1, 2, 3, 4), b"\x05\0"),
         (server.config_addr(port).bus_is_pnp(), b"\x06\0"),
         (server.bus_is_pnp().config_addr(port), b"\x06\0"),
-    ] {
+        (together, b"\x07\x0f\x01"),
+    ];
+    for (table, flags) in rows {
         stands(rt.alloc(), &table, 58, flags)?;
     }
     Ok(())
@@ -158,6 +151,7 @@ fn classes(rt: HostRuntime) -> Result<(), Fail> {
         (PlatformClass::Client, b"\0\0"),
         (PlatformClass::Server, b"\x01\0"),
     ] {
+        equal(&(class as u16).to_le_bytes(), number)?;
         let mut table = Tpm2::new(OEM, OEM_TABLE, OEM_REVISION, class, 0, StartMethod::Mmio);
         has_class(rt.alloc(), &mut table, number)?;
     }
@@ -180,6 +174,7 @@ fn start_methods(rt: HostRuntime) -> Result<(), Fail> {
         (StartMethod::CrbAndSmcHvc, 11),
         (StartMethod::I2cFifo, 12),
     ] {
+        equal(&(method as u8), &number)?;
         let class = PlatformClass::Client;
         let table = Tpm2::new(OEM, OEM_TABLE, OEM_REVISION, class, 0, method);
         has_method(rt.alloc(), &table, number)?;

@@ -1,4 +1,4 @@
-//! A MADT with one structure of each kind, and one with many of a kind, after each addition.
+//! A MADT with one structure of each kind, after each addition.
 
 use acpi_tables::Aml;
 use acpi_tables::madt::{
@@ -28,54 +28,6 @@ fn adds<T: Aml + Drop>(
     many(alloc, madt, b"APIC", 1, &[1, 2, 3, 4, 0, 0, 0, 0], all, 1)
 }
 
-fn rintc(status: HartStatus) -> RINTC {
-    RINTC::new(status, 0x1211, 0x2423_2221, 0x31, 0x41, 0x51)
-}
-
-const RINTC_BYTES: [u8; 36] = *b"\x18\x24\x01\0\x01\0\0\0\x11\x12\0\0\0\0\0\0\
-        \x21\x22\x23\x24\x31\0\0\0\x41\0\0\0\0\0\0\0\x51\0\0\0";
-
-fn aplic() -> APLIC {
-    APLIC::new(
-        7,
-        *b"RSCV0002",
-        0x1211,
-        0x2423_2221,
-        0x31,
-        0x4443_4241,
-        0x5251,
-    )
-}
-
-const APLIC_BYTES: [u8; 36] = *b"\x1a\x24\x01\x07\0\0\0\0RSCV0002\
-        \x11\x12\x51\x52\x21\x22\x23\x24\x31\0\0\0\0\0\0\0\x41\x42\x43\x44";
-
-fn plic() -> PLIC {
-    PLIC::new(
-        2,
-        *b"RSCV0001",
-        0x1211,
-        0x1413,
-        0x2423_2221,
-        0x31,
-        0x4443_4241,
-    )
-}
-
-const PLIC_BYTES: [u8; 36] = *b"\x1b\x24\x01\x02RSCV0001\x11\x12\x13\x14\
-        \0\0\0\0\x21\x22\x23\x24\x31\0\0\0\0\0\0\0\x41\x42\x43\x44";
-
-// The states of a processor and of a hart, and the number of both, by turns.
-const STATES: [(EnabledStatus, HartStatus, u8); 3] = [
-    (EnabledStatus::Disabled, HartStatus::Disabled, 0),
-    (EnabledStatus::Enabled, HartStatus::Enabled, 1),
-    (
-        EnabledStatus::DisabledOnlineCapable,
-        HartStatus::OnlineCapable,
-        2,
-    ),
-];
-
 // Adds structures of the interrupt controllers of Arm.
 fn adds_those_of_arm(alloc: Global, madt: &mut MADT, all: &mut Vec<u8>) -> Result<(), Fail> {
     let mut gicc = [0; 82];
@@ -98,9 +50,19 @@ fn adds_those_of_arm(alloc: Global, madt: &mut MADT, all: &mut Vec<u8>) -> Resul
 
 // Adds structures of the interrupt controllers of RISC-V.
 fn adds_those_of_riscv(alloc: Global, madt: &mut MADT, all: &mut Vec<u8>) -> Result<(), Fail> {
-    adds(alloc, madt, rintc(HartStatus::Enabled), &RINTC_BYTES, all)?;
-    adds(alloc, madt, aplic(), &APLIC_BYTES, all)?;
-    adds(alloc, madt, plic(), &PLIC_BYTES, all)?;
+    let bytes = b"\x18\x24\x01\0\x01\0\0\0\x11\x12\0\0\0\0\0\0\
+        \x21\x22\x23\x24\x31\0\0\0\x41\0\0\0\0\0\0\0\x51\0\0\0";
+    let hart = RINTC::new(HartStatus::Enabled, 0x1211, 0x2423_2221, 0x31, 0x41, 0x51);
+    adds(alloc, madt, hart, bytes, all)?;
+    let bytes = b"\x1a\x24\x01\x07\0\0\0\0RSCV0002\
+        \x11\x12\x51\x52\x21\x22\x23\x24\x31\0\0\0\0\0\0\0\x41\x42\x43\x44";
+    let (id, base, size) = (*b"RSCV0002", 0x31, 0x4443_4241);
+    let aplic = APLIC::new(7, id, 0x1211, 0x2423_2221, base, size, 0x5251);
+    adds(alloc, madt, aplic, bytes, all)?;
+    let bytes = b"\x1b\x24\x01\x02RSCV0001\x11\x12\x13\x14\
+        \0\0\0\0\x21\x22\x23\x24\x31\0\0\0\0\0\0\0\x41\x42\x43\x44";
+    let plic = PLIC::new(2, *b"RSCV0001", 0x1211, 0x1413, 0x2423_2221, base, size);
+    adds(alloc, madt, plic, bytes, all)?;
     let bytes = b"\x19\x10\x01\0\0\0\0\0\x01\x02\x03\x04\x05\x06\x07\x08";
     let imsic = IMSIC::new(0x0201, 0x0403, 5, 6, 7, 8);
     adds(alloc, madt, imsic, bytes, all)
@@ -111,7 +73,11 @@ fn adds_those_of_x86(alloc: Global, madt: &mut MADT, all: &mut Vec<u8>) -> Resul
     let bytes = b"\x01\x0c\x01\0\x02\x03\x04\x05\x06\x07\x08\x09";
     let io = IoApic::new(1, 0x0504_0302, 0x0908_0706);
     adds(alloc, madt, io, bytes, all)?;
-    for (status, _, number) in STATES {
+    for (status, number) in [
+        (EnabledStatus::Disabled, 0),
+        (EnabledStatus::Enabled, 1),
+        (EnabledStatus::DisabledOnlineCapable, 2),
+    ] {
         let local = ProcessorLocalApic::new(4, 5, status);
         let bytes = [0, 8, 4, 5, number, 0, 0, 0];
         adds(alloc, madt, local, &bytes, all)?;
@@ -129,65 +95,4 @@ fn adds_each_kind(alloc: Global, madt: &mut MADT, all: &mut Vec<u8>) -> Result<(
 fn each_kind(rt: HostRuntime) -> Result<(), Fail> {
     let mut madt = table(rt.alloc());
     adds_each_kind(rt.alloc(), &mut madt, &mut Vec::new(rt.alloc()))
-}
-
-fn adds_processors(alloc: Global, madt: &mut MADT, all: &mut Vec<u8>) -> Result<(), Fail> {
-    for i in 0..64u8 {
-        let (status, _, number) = STATES[usize::from(i % 3)];
-        let local = ProcessorLocalApic::new(i, 7, status);
-        let bytes = [0, 8, i, 7, number, 0, 0, 0];
-        adds(alloc, madt, local, &bytes, all)?;
-    }
-    Ok(())
-}
-
-#[test]
-fn processors(rt: HostRuntime) -> Result<(), Fail> {
-    let mut madt = table(rt.alloc());
-    adds_processors(rt.alloc(), &mut madt, &mut Vec::new(rt.alloc()))
-}
-
-fn adds_io_apics(alloc: Global, madt: &mut MADT, all: &mut Vec<u8>) -> Result<(), Fail> {
-    for i in 0..64u8 {
-        let io = IoApic::new(i, 0x0504_0302, 0x0908_0706);
-        let bytes = [1, 12, i, 0, 2, 3, 4, 5, 6, 7, 8, 9];
-        adds(alloc, madt, io, &bytes, all)?;
-    }
-    Ok(())
-}
-
-#[test]
-fn io_apics(rt: HostRuntime) -> Result<(), Fail> {
-    let mut madt = table(rt.alloc());
-    adds_io_apics(rt.alloc(), &mut madt, &mut Vec::new(rt.alloc()))
-}
-
-fn adds_harts(alloc: Global, madt: &mut MADT, all: &mut Vec<u8>) -> Result<(), Fail> {
-    for i in 0..64u8 {
-        let (_, status, number) = STATES[usize::from(i % 3)];
-        let mut bytes = RINTC_BYTES;
-        bytes[4] = number;
-        adds(alloc, madt, rintc(status), &bytes, all)?;
-    }
-    Ok(())
-}
-
-#[test]
-fn harts(rt: HostRuntime) -> Result<(), Fail> {
-    let mut madt = table(rt.alloc());
-    adds_harts(rt.alloc(), &mut madt, &mut Vec::new(rt.alloc()))
-}
-
-fn adds_controllers(alloc: Global, madt: &mut MADT, all: &mut Vec<u8>) -> Result<(), Fail> {
-    for _ in 0..64u8 {
-        adds(alloc, madt, aplic(), &APLIC_BYTES, all)?;
-        adds(alloc, madt, plic(), &PLIC_BYTES, all)?;
-    }
-    Ok(())
-}
-
-#[test]
-fn controllers(rt: HostRuntime) -> Result<(), Fail> {
-    let mut madt = table(rt.alloc());
-    adds_controllers(rt.alloc(), &mut madt, &mut Vec::new(rt.alloc()))
 }

@@ -38,58 +38,68 @@ fn srat(rt: HostRuntime) -> Result<(), Fail> {
     is_srat(rt.alloc(), &mut table(rt.alloc()))
 }
 
-// A table of revision 3.
-#[test]
-fn srat_of_revision_3(rt: HostRuntime) -> Result<(), Fail> {
-    let table = SRAT::of_revision(rt.alloc(), 3, OEM, OEM_TABLE, OEM_REVISION);
-    writes(
-        rt.alloc(),
-        &table,
-        b"SRAT\x30\0\0\0\x03\x46FOOBARCAFEDEAD\xef\xbe\xad\xdeRVAT\0\0\0\x01\x01\0\0\0\0\0\0\0\0\0\0\0",
-    )
-}
-
-fn has_flags(alloc: Global, memory: MemoryAffinity, flags: u8) -> Result<(), Fail> {
-    let mut wanted = [0; 40];
-    wanted[0] = 1;
-    wanted[1] = 40;
-    wanted[28] = flags;
-    writes(alloc, &memory, &wanted)
-}
-
 fn memory() -> MemoryAffinity {
     MemoryAffinity::new(0, 0, 0)
 }
 
 #[test]
 fn memory_flags(rt: HostRuntime) -> Result<(), Fail> {
-    let alloc = rt.alloc();
-    has_flags(alloc, memory(), 0)?;
-    has_flags(alloc, memory().enabled(), 1)?;
-    has_flags(alloc, memory().hotpluggable(), 2)?;
-    has_flags(alloc, memory().nonvolatile(), 4)?;
-    has_flags(alloc, memory().enabled().enabled(), 1)?;
-    has_flags(alloc, memory().enabled().hotpluggable(), 3)?;
-    has_flags(alloc, memory().hotpluggable().enabled(), 3)?;
-    has_flags(alloc, memory().hotpluggable().hotpluggable(), 2)?;
-    has_flags(alloc, memory().nonvolatile().enabled(), 5)?;
-    has_flags(alloc, memory().nonvolatile().hotpluggable(), 6)?;
-    has_flags(alloc, memory().nonvolatile().nonvolatile(), 4)
+    for (memory, flags) in [
+        (memory(), 0),
+        (memory().enabled(), 1),
+        (memory().hotpluggable(), 2),
+        (memory().nonvolatile(), 4),
+        (memory().enabled().enabled(), 1),
+        (memory().enabled().hotpluggable(), 3),
+        (memory().hotpluggable().enabled(), 3),
+        (memory().hotpluggable().hotpluggable(), 2),
+        (memory().nonvolatile().enabled(), 5),
+        (memory().nonvolatile().hotpluggable(), 6),
+        (memory().nonvolatile().nonvolatile(), 4),
+    ] {
+        let mut wanted = [0; 40];
+        wanted[0] = 1;
+        wanted[1] = 40;
+        wanted[28] = flags;
+        writes(rt.alloc(), &memory, &wanted)?;
+    }
+    Ok(())
 }
 
+fn initiator() -> GenericInitiator {
+    GenericInitiator::new(0x0403_0201, Handle::new_acpi(*b"ABCDEFGH", *b"ijkl"))
+}
+
+// Initiators and harts with each of their fields, and flags that are set twice and together.
 #[test]
-fn initiators(rt: HostRuntime) -> Result<(), Fail> {
-    let alloc = rt.alloc();
+fn initiators_and_harts(rt: HostRuntime) -> Result<(), Fail> {
     let acpi = Handle::new_acpi(*b"ABCDEFGH", *b"ijkl");
     let pci = Handle::new_pci(0x2211, 0x33, 31, 7);
     let architectural = GenericInitiator::new(9, Handle::new_pci(0, 0, 1, 0)).architectural();
+    let rintc = RintcAffinity::new([0x42, 0x37, 0x58, 0xde], 0xde58_3742);
     all(
-        alloc,
+        rt.alloc(),
         &[
             (&acpi, b"ABCDEFGHijkl\0\0\0\0"),
             (
-                &GenericInitiator::new(0x0403_0201, acpi),
+                &initiator(),
                 b"\x05\x20\0\0\x01\x02\x03\x04ABCDEFGHijkl\0\0\0\0\0\0\0\0\0\0\0\0",
+            ),
+            (
+                &initiator().enabled().enabled(),
+                b"\x05\x20\0\0\x01\x02\x03\x04ABCDEFGHijkl\0\0\0\0\x01\0\0\0\0\0\0\0",
+            ),
+            (
+                &initiator().architectural().architectural(),
+                b"\x05\x20\0\0\x01\x02\x03\x04ABCDEFGHijkl\0\0\0\0\x02\0\0\0\0\0\0\0",
+            ),
+            (
+                &initiator().enabled().architectural(),
+                b"\x05\x20\0\0\x01\x02\x03\x04ABCDEFGHijkl\0\0\0\0\x03\0\0\0\0\0\0\0",
+            ),
+            (
+                &initiator().architectural().enabled(),
+                b"\x05\x20\0\0\x01\x02\x03\x04ABCDEFGHijkl\0\0\0\0\x03\0\0\0\0\0\0\0",
             ),
             (&pci, b"\x11\x22\x33\xff\0\0\0\0\0\0\0\0\0\0\0\0"),
             (
@@ -100,27 +110,24 @@ fn initiators(rt: HostRuntime) -> Result<(), Fail> {
                 &architectural,
                 b"\x05\x20\0\x01\x09\0\0\0\0\0\0\x08\0\0\0\0\0\0\0\0\0\0\0\0\x02\0\0\0\0\0\0\0",
             ),
+            (
+                &rintc,
+                b"\x07\x14\0\0\0\0\0\0\x42\x37\x58\xde\0\0\0\0\x42\x37\x58\xde",
+            ),
+            (
+                &rintc.enabled(),
+                b"\x07\x14\0\0\0\0\0\0\x42\x37\x58\xde\x01\0\0\0\x42\x37\x58\xde",
+            ),
+            (
+                &rintc.enabled().enabled(),
+                b"\x07\x14\0\0\0\0\0\0\x42\x37\x58\xde\x01\0\0\0\x42\x37\x58\xde",
+            ),
+            (
+                &rintc.proximity_domain(0x0403_0201),
+                b"\x07\x14\0\0\x01\x02\x03\x04\x42\x37\x58\xde\0\0\0\0\x42\x37\x58\xde",
+            ),
         ],
     )
-}
-
-fn initiator() -> GenericInitiator {
-    GenericInitiator::new(0x0403_0201, Handle::new_acpi(*b"ABCDEFGH", *b"ijkl"))
-}
-
-#[test]
-fn initiator_flags(rt: HostRuntime) -> Result<(), Fail> {
-    for (initiator, flags) in [
-        (initiator().enabled().enabled(), 1),
-        (initiator().architectural().architectural(), 2),
-        (initiator().enabled().architectural(), 3),
-        (initiator().architectural().enabled(), 3),
-    ] {
-        let mut wanted = *b"\x05\x20\0\0\x01\x02\x03\x04ABCDEFGHijkl\0\0\0\0\0\0\0\0\0\0\0\0";
-        wanted[24] = flags;
-        writes(rt.alloc(), &initiator, &wanted)?;
-    }
-    Ok(())
 }
 
 // A structure of each kind.
@@ -188,33 +195,6 @@ fn takes_an_address(alloc: Global, table: &mut SRAT) -> Result<(), Fail> {
 #[test]
 fn addresses_out_of_range(rt: HostRuntime) -> Result<(), Fail> {
     takes_an_address(rt.alloc(), &mut table(rt.alloc()))
-}
-
-#[test]
-fn processors(rt: HostRuntime) -> Result<(), Fail> {
-    let alloc = rt.alloc();
-    let rintc = RintcAffinity::new([0x42, 0x37, 0x58, 0xde], 0xde58_3742);
-    all(
-        alloc,
-        &[
-            (
-                &rintc,
-                b"\x07\x14\0\0\0\0\0\0\x42\x37\x58\xde\0\0\0\0\x42\x37\x58\xde",
-            ),
-            (
-                &rintc.enabled(),
-                b"\x07\x14\0\0\0\0\0\0\x42\x37\x58\xde\x01\0\0\0\x42\x37\x58\xde",
-            ),
-            (
-                &rintc.enabled().enabled(),
-                b"\x07\x14\0\0\0\0\0\0\x42\x37\x58\xde\x01\0\0\0\x42\x37\x58\xde",
-            ),
-            (
-                &rintc.proximity_domain(0x0403_0201),
-                b"\x07\x14\0\0\x01\x02\x03\x04\x42\x37\x58\xde\0\0\0\0\x42\x37\x58\xde",
-            ),
-        ],
-    )
 }
 
 fn takes_many(alloc: Global, table: &mut SRAT) -> Result<(), Fail> {

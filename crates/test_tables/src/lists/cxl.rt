@@ -194,6 +194,7 @@ fn ways(rt: HostRuntime) -> Result<(), Fail> {
         (InterleaveWays::Ways6, 9, 6),
         (InterleaveWays::Ways12, 10, 12),
     ] {
+        equal(&(ways as u8), &number)?;
         takes(rt.alloc(), &mut of_ways(rt.alloc(), ways), number, count)?;
     }
     Ok(())
@@ -223,6 +224,7 @@ fn granularities(rt: HostRuntime) -> Result<(), Fail> {
         (InterleaveGranularity::Granularity8kb, 5),
         (InterleaveGranularity::Granularity16kb, 6),
     ] {
+        equal(&(granularity as u8), &number)?;
         has_granularity(alloc, &mut one_way(alloc, granularity), number)?;
         writes(
             alloc,
@@ -341,29 +343,19 @@ fn has_most_maps(alloc: Global, math: &mut XorInterleaveMath) -> Result<(), Fail
     writes(alloc, math, &bytes_of_most_maps(alloc)?)
 }
 
+// Fails unless a table has these maps alone.
+fn takes_most_maps(alloc: Global, table: &mut CEDT, math: XorInterleaveMath) -> Result<(), Fail> {
+    table.add_xor_interleave_math(math)?;
+    let maps = bytes_of_most_maps(alloc)?;
+    many(alloc, table, b"CEDT", 1, &[], &maps, 1)
+}
+
 #[test]
 fn the_most_maps(rt: HostRuntime) -> Result<(), Fail> {
-    has_most_maps(rt.alloc(), &mut no_maps(rt.alloc()))
-}
-
-fn takes_most_maps(alloc: Global, table: &mut CEDT) -> Result<(), Fail> {
+    let alloc = rt.alloc();
     let mut math = no_maps(alloc);
-    add_most_maps(&mut math)?;
-    table.add_xor_interleave_math(math)?;
-    many(
-        alloc,
-        table,
-        b"CEDT",
-        1,
-        &[],
-        &bytes_of_most_maps(alloc)?,
-        1,
-    )
-}
-
-#[test]
-fn a_table_of_the_most_maps(rt: HostRuntime) -> Result<(), Fail> {
-    takes_most_maps(rt.alloc(), &mut table(rt.alloc()))
+    has_most_maps(alloc, &mut math)?;
+    takes_most_maps(alloc, &mut table(alloc), math)
 }
 
 fn takes_ports(alloc: Global, table: &mut CEDT) -> Result<(), Fail> {
@@ -383,18 +375,6 @@ fn one_target(alloc: Global) -> R<CxlFixedMemory> {
     let mut window = one_way(alloc, InterleaveGranularity::Granularity256b);
     window.add_target([9, 8, 7, 6])?;
     Ok(window)
-}
-
-fn takes_windows(alloc: Global, table: &mut CEDT) -> Result<(), Fail> {
-    for _ in 0..256u16 {
-        table.add_fixed_memory(one_target(alloc)?)?;
-    }
-    many(alloc, table, b"CEDT", 1, &[], &ONE_WAY, 256)
-}
-
-#[test]
-fn many_windows(rt: HostRuntime) -> Result<(), Fail> {
-    takes_windows(rt.alloc(), &mut table(rt.alloc()))
 }
 
 const CXL_OF_QEMU: &[u8] =

@@ -9,7 +9,7 @@ use acpi_tables::madt::{
 use std::alloc::Global;
 use std::test::Fail;
 use test_support::table::many;
-use test_support::{OEM, OEM_REVISION, OEM_TABLE, all, writes};
+use test_support::{OEM, OEM_REVISION, OEM_TABLE, all, equal, writes};
 
 #[test]
 fn of_the_bus(rt: HostRuntime) -> Result<(), Fail> {
@@ -64,38 +64,38 @@ const FLAGS: [(Polarity, TriggerMode, u8); 9] = [
     (Polarity::ActiveLow, TriggerMode::Level, 0x0f),
 ];
 
-#[test]
-fn flags(rt: HostRuntime) -> Result<(), Fail> {
-    let alloc = rt.alloc();
-    for (polarity, mode, flags) in FLAGS {
-        let source = InterruptSourceOverride::new(1, 2);
-        let source = source.polarity(polarity).trigger_mode(mode);
-        let wanted = [2, 10, 0, 1, 2, 0, 0, 0, flags, 0];
-        writes(alloc, &source, &wanted)?;
-        let global = NmiSource::new(1).polarity(polarity).trigger_mode(mode);
-        writes(alloc, &global, &[3, 8, flags, 0, 1, 0, 0, 0])?;
-        let local = LocalApicNmi::new(1, 2).trigger_mode(mode);
-        writes(alloc, &local.polarity(polarity), &[4, 6, 1, flags, 0, 2])?;
-        let local = LocalX2ApicNmi::new(1, 2).trigger_mode(mode);
-        let wanted = [10, 12, flags, 0, 1, 0, 0, 0, 2, 0, 0, 0];
-        writes(alloc, &local.polarity(polarity), &wanted)?;
-    }
-    Ok(())
-}
-
 // Of several settings the last one is written.
 #[test]
-fn last_settings(rt: HostRuntime) -> Result<(), Fail> {
-    let alloc = rt.alloc();
+fn flags(rt: HostRuntime) -> Result<(), Fail> {
     for (polarity, mode, flags) in FLAGS {
         let source = InterruptSourceOverride::new(1, 2);
-        let source = source
+        let low = source
             .polarity(Polarity::ActiveLow)
-            .trigger_mode(TriggerMode::Level)
-            .polarity(polarity)
-            .trigger_mode(mode);
+            .trigger_mode(TriggerMode::Level);
         let wanted = [2, 10, 0, 1, 2, 0, 0, 0, flags, 0];
-        writes(alloc, &source, &wanted)?;
+        all(
+            rt.alloc(),
+            &[
+                (&source.polarity(polarity).trigger_mode(mode), &wanted),
+                (&low.polarity(polarity).trigger_mode(mode), &wanted),
+                (
+                    &NmiSource::new(1).polarity(polarity).trigger_mode(mode),
+                    &[3, 8, flags, 0, 1, 0, 0, 0],
+                ),
+                (
+                    &LocalApicNmi::new(1, 2)
+                        .trigger_mode(mode)
+                        .polarity(polarity),
+                    &[4, 6, 1, flags, 0, 2],
+                ),
+                (
+                    &LocalX2ApicNmi::new(1, 2)
+                        .trigger_mode(mode)
+                        .polarity(polarity),
+                    &[10, 12, flags, 0, 1, 0, 0, 0, 2, 0, 0, 0],
+                ),
+            ],
+        )?;
     }
     Ok(())
 }
@@ -113,6 +113,7 @@ fn local_apics(rt: HostRuntime) -> Result<(), Fail> {
         (EnabledStatus::Enabled, 1),
         (EnabledStatus::DisabledOnlineCapable, 2),
     ] {
+        equal(&(status as u8), &flags)?;
         let processor = ProcessorLocalX2Apic::new(0x0403_0201, 0x1413_1211, status);
         let wanted = [
             9, 16, 0, 0, 0x11, 0x12, 0x13, 0x14, flags, 0, 0, 0, 1, 2, 3, 4,

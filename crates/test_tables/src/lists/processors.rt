@@ -8,28 +8,31 @@ use std::test::Fail;
 use test_support::table::many;
 use test_support::{OEM, OEM_REVISION, OEM_TABLE, all, writes};
 
+// Structures with each of their fields, and flags that are set twice.
 #[test]
-fn local_apics(rt: HostRuntime) -> Result<(), Fail> {
-    let first = ProcessorLocalApicAffinity::new(0x0403_0201, 5);
-    let full = first.clock_domain(0x1413_1211).local_sapic_eid(6).enabled();
+fn structures(rt: HostRuntime) -> Result<(), Fail> {
+    let local = ProcessorLocalApicAffinity::new(0x0403_0201, 5);
+    let full = local.clock_domain(0x1413_1211).local_sapic_eid(6).enabled();
+    let wide = ProcessorLocalX2ApicAffinity::new(0x0403_0201, 0x1413_1211);
+    let gic = GiccAffinity::new(0x0403_0201, 0x1413_1211);
     all(
         rt.alloc(),
         &[
-            (&first, b"\0\x10\x01\x05\0\0\0\0\0\x02\x03\x04\0\0\0\0"),
+            (&local, b"\0\x10\x01\x05\0\0\0\0\0\x02\x03\x04\0\0\0\0"),
             (
-                &first.enabled(),
+                &local.enabled(),
                 b"\0\x10\x01\x05\x01\0\0\0\0\x02\x03\x04\0\0\0\0",
             ),
             (
-                &first.enabled().enabled(),
+                &local.enabled().enabled(),
                 b"\0\x10\x01\x05\x01\0\0\0\0\x02\x03\x04\0\0\0\0",
             ),
             (
-                &first.local_sapic_eid(6),
+                &local.local_sapic_eid(6),
                 b"\0\x10\x01\x05\0\0\0\0\x06\x02\x03\x04\0\0\0\0",
             ),
             (
-                &first.clock_domain(0x1413_1211),
+                &local.clock_domain(0x1413_1211),
                 b"\0\x10\x01\x05\0\0\0\0\0\x02\x03\x04\x11\x12\x13\x14",
             ),
             (
@@ -39,6 +42,46 @@ fn local_apics(rt: HostRuntime) -> Result<(), Fail> {
             (
                 &full.clock_domain(u32::MAX).local_sapic_eid(u8::MAX),
                 b"\0\x10\x01\x05\x01\0\0\0\xff\x02\x03\x04\xff\xff\xff\xff",
+            ),
+            (
+                &wide,
+                b"\x02\x18\0\0\x01\x02\x03\x04\x11\x12\x13\x14\0\0\0\0\0\0\0\0\0\0\0\0",
+            ),
+            (
+                &wide.enabled(),
+                b"\x02\x18\0\0\x01\x02\x03\x04\x11\x12\x13\x14\x01\0\0\0\0\0\0\0\0\0\0\0",
+            ),
+            (
+                &wide.enabled().clock_domain(0x2423_2221).enabled(),
+                b"\x02\x18\0\0\x01\x02\x03\x04\x11\x12\x13\x14\x01\0\0\0\x21\x22\x23\x24\0\0\0\0",
+            ),
+            (
+                &ProcessorLocalX2ApicAffinity::new(u32::MAX, u32::MAX).clock_domain(u32::MAX),
+                b"\x02\x18\0\0\xff\xff\xff\xff\xff\xff\xff\xff\0\0\0\0\xff\xff\xff\xff\0\0\0\0",
+            ),
+            (
+                &gic,
+                b"\x03\x12\x01\x02\x03\x04\x11\x12\x13\x14\0\0\0\0\0\0\0\0",
+            ),
+            (
+                &gic.enabled(),
+                b"\x03\x12\x01\x02\x03\x04\x11\x12\x13\x14\x01\0\0\0\0\0\0\0",
+            ),
+            (
+                &gic.enabled().clock_domain(0x2423_2221).enabled(),
+                b"\x03\x12\x01\x02\x03\x04\x11\x12\x13\x14\x01\0\0\0\x21\x22\x23\x24",
+            ),
+            (
+                &GiccAffinity::new(u32::MAX, u32::MAX).clock_domain(u32::MAX),
+                b"\x03\x12\xff\xff\xff\xff\xff\xff\xff\xff\0\0\0\0\xff\xff\xff\xff",
+            ),
+            (
+                &GicItsAffinity::new(0x0403_0201, 0x1413_1211),
+                b"\x04\x0c\x01\x02\x03\x04\0\0\x11\x12\x13\x14",
+            ),
+            (
+                &GicItsAffinity::new(u32::MAX, u32::MAX),
+                b"\x04\x0c\xff\xff\xff\xff\0\0\xff\xff\xff\xff",
             ),
         ],
     )
@@ -65,66 +108,6 @@ fn domains_in_two_places(rt: HostRuntime) -> Result<(), Fail> {
         writes(rt.alloc(), &processor, &wanted)?;
     }
     Ok(())
-}
-
-#[test]
-fn local_x2apics(rt: HostRuntime) -> Result<(), Fail> {
-    let first = ProcessorLocalX2ApicAffinity::new(0x0403_0201, 0x1413_1211);
-    all(
-        rt.alloc(),
-        &[
-            (
-                &first,
-                b"\x02\x18\0\0\x01\x02\x03\x04\x11\x12\x13\x14\0\0\0\0\0\0\0\0\0\0\0\0",
-            ),
-            (
-                &first.enabled(),
-                b"\x02\x18\0\0\x01\x02\x03\x04\x11\x12\x13\x14\x01\0\0\0\0\0\0\0\0\0\0\0",
-            ),
-            (
-                &first.enabled().clock_domain(0x2423_2221).enabled(),
-                b"\x02\x18\0\0\x01\x02\x03\x04\x11\x12\x13\x14\x01\0\0\0\x21\x22\x23\x24\0\0\0\0",
-            ),
-            (
-                &ProcessorLocalX2ApicAffinity::new(u32::MAX, u32::MAX).clock_domain(u32::MAX),
-                b"\x02\x18\0\0\xff\xff\xff\xff\xff\xff\xff\xff\0\0\0\0\xff\xff\xff\xff\0\0\0\0",
-            ),
-        ],
-    )
-}
-
-#[test]
-fn gics(rt: HostRuntime) -> Result<(), Fail> {
-    let first = GiccAffinity::new(0x0403_0201, 0x1413_1211);
-    all(
-        rt.alloc(),
-        &[
-            (
-                &first,
-                b"\x03\x12\x01\x02\x03\x04\x11\x12\x13\x14\0\0\0\0\0\0\0\0",
-            ),
-            (
-                &first.enabled(),
-                b"\x03\x12\x01\x02\x03\x04\x11\x12\x13\x14\x01\0\0\0\0\0\0\0",
-            ),
-            (
-                &first.enabled().clock_domain(0x2423_2221).enabled(),
-                b"\x03\x12\x01\x02\x03\x04\x11\x12\x13\x14\x01\0\0\0\x21\x22\x23\x24",
-            ),
-            (
-                &GiccAffinity::new(u32::MAX, u32::MAX).clock_domain(u32::MAX),
-                b"\x03\x12\xff\xff\xff\xff\xff\xff\xff\xff\0\0\0\0\xff\xff\xff\xff",
-            ),
-            (
-                &GicItsAffinity::new(0x0403_0201, 0x1413_1211),
-                b"\x04\x0c\x01\x02\x03\x04\0\0\x11\x12\x13\x14",
-            ),
-            (
-                &GicItsAffinity::new(u32::MAX, u32::MAX),
-                b"\x04\x0c\xff\xff\xff\xff\0\0\xff\xff\xff\xff",
-            ),
-        ],
-    )
 }
 
 // A structure of each kind.
