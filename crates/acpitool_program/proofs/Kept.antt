@@ -97,7 +97,10 @@ archived_kept folder file o o' o'' e e' s kept (inl (paths, inl all)) = inl (
     ];
   }),
 )
-archived_kept folder file o o' o'' e e' s kept (inl (paths, inr refused)) = inl (paths, inr (refused.0, keeps_kept o o' o'' refused.1 kept))
+archived_kept folder file o o' o'' e e' s kept (inl (paths, inr (inl refused))) =
+    inl (paths, inr (inl (refused.0, keeps_kept o o' o'' refused.1 kept)))
+archived_kept folder file o o' o'' e e' s kept (inl (paths, inr (inr replaced))) =
+    inl (paths, inr (inr (replaced.0, keeps_kept o o' o'' replaced.1 kept)))
 archived_kept folder file o o' o'' e e' s kept (inr not) = inr (unread_kept folder o o' o'' e e' s kept not)
 
 saved_to_kept : (image : Image) (file : List ℕ) (o o' o'' e e' : Option (List ℕ)) (s : ℕ) → Keeps o' o''

@@ -13,6 +13,7 @@ mod Machines
 mod Outcomes
 mod Paths
 mod Pointers
+mod Replaced
 mod Rests
 mod Runs
 mod Spaces
@@ -20,6 +21,7 @@ mod Streams
 mod Texts
 mod Unforced
 mod Unpacked
+mod UnreadBlocks
 mod Verbs
 mod Whole
 mod Words

@@ -1,5 +1,5 @@
 -- The loader of a folder's files.
-use Rattle.std.proofs.Common.{◌≡◌, ℕ, List, [], ◌∷◌, ◌++◌, Option, refl, sym, ap, ◌∙◌, inl, inr, codes, Result, Ok, Err, MatchResult}
+use Rattle.std.proofs.Common.{◌≡◌, ℕ, List, [], ◌∷◌, ◌++◌, Option, refl, sym, ◌∙◌, inl, inr, codes, Result, Ok, Err, MatchResult}
 use Rattle.std.specs.Prelude.{◌≢◌}
 use Rattle.std.specs.Io.KnownBytes.{Keeps}
 use Rattle.acpi_loader.specs.Loader.{IsLoader}
@@ -7,7 +7,7 @@ use Rattle.acpi_loader.specs.declared.loader.Loader.{Loader}
 use Rattle.acpitool_program.proofs.Streams.{keeps_self, keeps_kept, keeps_then}
 use Rattle.acpitool_program.specs.Laying.{AreFiles}
 use Rattle.acpitool_program.specs.Loading.{HaveNoLoader, IsLoaderOf, IsNotLoaded, HasNoFolder, HasFolder, HasFolders, ArePut, files_of, IsPut, IsPutOut, IsLoaded}
-use Rattle.acpitool_program.specs.Unpacking.{Wrote, NotMade, IsUnpacked}
+use Rattle.acpitool_program.specs.Unpacking.{NotMade, IsUnpacked}
 
 -- what was read, and what came of it
 pub loaded_then : (folder : List ℕ) (paths files : List (List ℕ)) (found : Result Loader ℕ) (a b c : Option (List ℕ))

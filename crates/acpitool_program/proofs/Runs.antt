@@ -9,7 +9,7 @@ use Rattle.acpitool_program.specs.Disassembly.{DisassemblesFile}
 use Rattle.acpi_asl.specs.declared.block.BlockText.{BlockText}
 use Rattle.acpi_asl.specs.declared.block.BlockText.TheVariants as blocks
 use Rattle.acpitool_program.specs.Drawing.{Draws, DrawsFile, DrawsImage}
-use Rattle.acpitool_program.specs.Job.{Job, shows}
+use Rattle.acpitool_program.specs.Job.{Job}
 use Rattle.acpitool_program.specs.Listing.{Listed}
 use Rattle.acpi_compile.specs.Compiled.{is_asl}
 use Rattle.acpitool_program.specs.Making.{MakesOf, MakesWord, Makes}
@@ -70,7 +70,10 @@ checked_kept false files o o' o'' e e' s kept all = record {
   are = all.are;
   hold = all.hold;
   wrote = appends_kept o o' o'' _ all.wrote kept;
+  err_then = all.err_then;
   complained = all.complained;
+  unread = all.unread;
+  told = all.told;
   is = all.is;
 }
 
@@ -178,7 +181,6 @@ word_kept force name file o o' o'' e e' s kept (inr not) = inr (unread_kept name
 made_kept : (force : Bool) (name file : List ℕ) (o o' o'' e e' : Option (List ℕ)) (s : ℕ) → Keeps o' o''
     → Makes force name file o o' e e' s → Makes force name file o o'' e e' s
 made_kept force name file o o' o'' e e' s kept (inl its) = inl (record {
-  same = its.same;
   other = its.other;
   complained = its.complained;
   silent = keeps_kept o o' o'' its.silent kept;

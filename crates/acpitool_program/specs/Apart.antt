@@ -14,7 +14,8 @@ use Rattle.acpi_layout.specs.declared.located.Located.{Located}
 use Rattle.acpi_layout.specs.declared.range.Range.{Range}
 use Rattle.acpitool_program.specs.Archiving.{CantBeRead}
 use Rattle.acpitool_program.specs.Fault.{line_of, Says}
-use Rattle.acpitool_program.specs.Laying.{AreFiles, IsMisread, AreNotLaid, WouldReplace, rsdp_line}
+use Rattle.acpitool_program.specs.Laying.{AreFiles, IsMisread, AreNotLaid, rsdp_line}
+use Rattle.acpitool_program.specs.Replaced.{WouldReplace}
 use Rattle.acpitool_program.specs.Making.{Saved, NotSaved}
 use Rattle.acpitool_program.specs.declared.fault.Fault.{Fault}
 
@@ -121,8 +122,8 @@ pub record HaveNoApart (folder file : List ℕ) (base rsdp : ℕ) (paths : List 
 -- nothing is written: the image or the RSDP would replace one of the files, one is refused, or they have no image
 abbrev pub IsNotLaidApart : List ℕ → List ℕ → List ℕ → ℕ → ℕ → List (List ℕ) → Option (List ℕ) → Option (List ℕ) → ℕ → Type 0
 IsNotLaidApart folder file pointer base rsdp paths err err' status =
-    WouldReplace paths file err err' status
-    ⊎ WouldReplace paths pointer err err' status
+    WouldReplace (codes "image") file err err' status
+    ⊎ WouldReplace (codes "image") pointer err err' status
     ⊎ IsMisread paths err err' status
     ⊎ HaveNoApart folder file base rsdp paths err err' status
 

@@ -8,6 +8,7 @@ use Rattle.acpitool_program.specs.Disassembly.{IsNoTable}
 use Rattle.acpitool_program.specs.Fault.{line_of}
 use Rattle.acpitool_program.specs.Listing.{NotRead}
 use Rattle.acpitool_program.specs.Making.{IsWritten}
+use Rattle.acpitool_program.specs.Replaced.{WouldReplace}
 use Rattle.acpitool_program.specs.declared.fault.Fault.{Fault}
 
 -- the name of a file: what follows the last slash of its path
@@ -75,7 +76,9 @@ pub record AreArchived (paths : List (List ℕ)) (file : List ℕ) (out out' err
 abbrev pub ArchivesFiles : List (List ℕ) → List ℕ
     → Option (List ℕ) → Option (List ℕ) → Option (List ℕ) → Option (List ℕ) → ℕ → Type 0
 ArchivesFiles paths file out out' err err' status =
-    AreArchived paths file out out' err err' status ⊎ (AreRefused paths err err' status × Keeps out out')
+    AreArchived paths file out out' err err' status
+    ⊎ (AreRefused paths err err' status × Keeps out out')
+    ⊎ (WouldReplace (codes "archive") file err err' status × Keeps out out')
 
 -- what comes of `cpio FOLDER FILE`: the system says which files the folder has
 abbrev pub Archives : List ℕ → List ℕ → Option (List ℕ) → Option (List ℕ) → Option (List ℕ) → Option (List ℕ) → ℕ → Type 0

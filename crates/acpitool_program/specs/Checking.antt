@@ -5,16 +5,20 @@ use Rattle.acpi_json.specs.Array.{array}
 use Rattle.acpitool_program.specs.Job.{checks}
 use Rattle.acpitool_program.specs.Machine.{machine_text, line_status}
 use Rattle.acpitool_program.specs.Outcome.{Outcome, AreTrueOutcomes, outputs, complaints, worst, kept_in, AreOfEach, AreOfWord}
+use Rattle.acpitool_program.specs.Unread.{AreTold}
 
 -- Each file has its outcomes, which were printed in order. After them came the rules on several tables that the tables break that
--- were checked. The status is the greatest.
+-- were checked, and a line for each definition block among these tables whose terms can't be read. The status is the greatest.
 pub record AreCheckedAs (json : Bool) (files : List (List ℕ)) (out out' err err' : Option (List ℕ)) (status : ℕ) : Type 0 where
   pub outcomes : List Outcome
   pub are : AreOfEach AreOfWord files outcomes
   pub hold : AreTrueOutcomes (checks json) outcomes
   pub wrote : Appends out out' (outputs outcomes ++ machine_text json (kept_in outcomes))
-  pub complained : Appends err err' (complaints outcomes)
-  pub is : status ≡ max (worst outcomes) (line_status (machine_text json (kept_in outcomes)))
+  pub err_then : Option (List ℕ)
+  pub complained : Appends err err_then (complaints outcomes)
+  pub unread : ℕ
+  pub told : AreTold (kept_in outcomes) err_then err' unread
+  pub is : status ≡ max (max (worst outcomes) (line_status (machine_text json (kept_in outcomes)))) unread
 
 -- what is printed are the objects of an array
 pub record AreCheckedAsJson (files : List (List ℕ)) (out out' err err' : Option (List ℕ)) (status : ℕ) : Type 0 where

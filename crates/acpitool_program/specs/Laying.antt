@@ -2,7 +2,6 @@
 use Rattle.std.specs.Prelude.{◌≡◌, ◌≢◌, ◌⊎◌, ℕ, nat_eq, List, [], ◌∷◌, ◌++◌, Bool, true, false, ◌||◌, Option, Some, None, Ok}
 use Rattle.std.specs.Prelude.{codes}
 use Rattle.std.specs.List.{slice_get, ends_with}
-use Rattle.std.specs.Str.{bytes_eq}
 use Rattle.std.specs.Io.KnownBytes.{Keeps, Appends}
 use Rattle.acpi_compile.specs.Compiled.{is_asl, IsCompiled}
 use Rattle.acpi_forms.specs.Kind.{kind_of}
@@ -23,6 +22,7 @@ use Rattle.acpitool_program.specs.Image.{IsFoundImage}
 use Rattle.acpitool_program.specs.Listing.{IsNoImage, why}
 use Rattle.acpitool_program.specs.Compiling.{CompiledOrNot}
 use Rattle.acpitool_program.specs.Making.{MadeOrNot, Saved, NotSaved}
+use Rattle.acpitool_program.specs.Replaced.{WouldReplace}
 use Rattle.acpitool_program.specs.Structures.{IsSoundOr}
 use Rattle.acpitool_program.specs.Text.{IsKind, IsTextFault}
 use Rattle.acpitool_program.specs.declared.fault.Fault.{Fault}
@@ -119,20 +119,6 @@ pub record IsMisread (paths : List (List ℕ)) (err err' : Option (List ℕ)) (s
   pub fine : AreFiles before files
   pub refused : IsRefused path err err' status
 
--- whether one of the paths is this one
-abbrev pub has_path : List ℕ → List (List ℕ) → Bool
-has_path file [] = false
-has_path file (path ∷ paths) = bytes_eq path file || has_path file paths
-
-abbrev pub replaced_line : List ℕ → List ℕ
-replaced_line file = file ++ codes ": the image would replace a table\n"
-
--- the image is to be one of the files, which isn't touched
-pub record WouldReplace (paths : List (List ℕ)) (file : List ℕ) (err err' : Option (List ℕ)) (status : ℕ) : Type 0 where
-  pub has : has_path file paths ≡ true
-  pub complained : Appends err err' (replaced_line file)
-  pub is : status ≡ 1
-
 -- ---- why files have no image
 
 -- the path, or the folder if there is none
@@ -177,7 +163,7 @@ pub record HaveNoImage (folder file : List ℕ) (base : ℕ) (paths : List (List
 -- no image is written
 abbrev pub IsNotLaid : List ℕ → List ℕ → ℕ → List (List ℕ) → Option (List ℕ) → Option (List ℕ) → ℕ → Type 0
 IsNotLaid folder file base paths err err' status =
-    WouldReplace paths file err err' status ⊎ IsMisread paths err err' status
+    WouldReplace (codes "image") file err err' status ⊎ IsMisread paths err err' status
     ⊎ HaveNoImage folder file base paths err err' status
 
 -- ---- the image

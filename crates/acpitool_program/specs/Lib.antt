@@ -15,6 +15,7 @@ pub mod Job
 pub mod Checked
 pub mod Object
 pub mod Unpacking
+pub mod Replaced
 pub mod Archiving
 pub mod Laying
 pub mod Apart
@@ -23,6 +24,7 @@ pub mod Comparing
 pub mod Compiling
 pub mod Machine
 pub mod Outcome
+pub mod Unread
 pub mod Checking
 pub mod Disassembly
 pub mod Drawing

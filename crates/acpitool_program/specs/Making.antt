@@ -155,9 +155,8 @@ MakesWord force name file out out' err err' status =
 abbrev pub same_line : List ℕ → List ℕ
 same_line name = name ++ codes ": the table would replace its text\n"
 
--- the text and the table are to be one file, which isn't touched
+-- The words or the system say that the text and the table are to be one file, which isn't touched.
 pub record IsItsText (name file : List ℕ) (out out' err err' : Option (List ℕ)) (status : ℕ) : Type 0 where
-  pub same : file ≡ name
   pub other : file ≢ codes "-"
   pub complained : Appends err err' (same_line name)
   pub silent : Keeps out out'

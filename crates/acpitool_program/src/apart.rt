@@ -1,6 +1,6 @@
 //! The image of the tables of a folder, with the RSDP at an address of its own.
 
-ghost use Rattle.std.specs.Prelude.{◌≡◌, ◌≢◌, ◌≤◌, ℕ, List, length, map, string_bytes, IfOk, IfErr, OnOk, MatchResult};
+ghost use Rattle.std.specs.Prelude.{false, ◌≡◌, ◌≢◌, ◌≤◌, ℕ, List, length, map, string_bytes, IfOk, IfErr, OnOk, MatchResult};
 ghost use Rattle.std.specs.Io.KnownBytes.{Keeps, Appends};
 ghost use Rattle.acpi_layout.specs.declared.fault.ImageFault.TheVariants.{Memory};
 ghost use Rattle.acpitool_program.specs.Apart.{pointer_at, tables_of, pointer_of, pointer_file, is_apart};
@@ -8,13 +8,14 @@ ghost use Rattle.acpitool_program.specs.Apart.{IsPlacedApart, IsMisplaced};
 ghost use Rattle.acpitool_program.specs.Apart.{AreFoundApart, AreNotFoundApart, IsSoundApart, IsNoApart, HaveNoneApart};
 ghost use Rattle.acpitool_program.specs.Apart.{IsApartOf, IsNotLaidApart, HasNoneApart, AreSaved, one_file_line, LaysApart};
 ghost use Rattle.acpi_layout.specs.Files.{IsLaid};
+ghost use Rattle.acpitool_program.specs.Replaced.{is_path_among};
 
 use crate::complaint::complain;
 use crate::fault::Fault;
-use crate::files::files_in;
-use crate::laying::{blamed, has_path, read_files, tell_replaced, tell_rsdp};
+use crate::files::{files_in, is_among};
+use crate::laying::{blamed, read_files, tell_rsdp};
 use crate::making::save;
-use crate::outcome::tell_unread;
+use crate::outcome::{tell_replaced, tell_unread};
 use acpi_layout::check::check_memory;
 use acpi_layout::fault::ImageFault;
 use acpi_layout::files::lay_files;
@@ -153,17 +154,20 @@ fn apart_of_paths<R: Files, E: Write>(
     paths: &[String],
     err: &mut E,
 ) -> io::Result<Result<Image, u8>>
-    ensures { IfOk result (λ image. MatchResult image
+    ensures image { IfOk result (λ image. MatchResult image
         (λ image. IsApartOf base rsdp (map (λ path. string_bytes path) paths.now) image
         × Keeps (E.contents err.old) (E.contents err.new))
         (λ status. IsNotLaidApart folder.now file.now pointer.now base rsdp (map (λ path. string_bytes path) paths.now)
         (E.contents err.old) (E.contents err.new) status)) }
+    ensures kept { IfOk result (λ image. MatchResult image
+        (λ image. (is_path_among file.now (map (λ path. string_bytes path) paths.now) ≡ false)
+        × (is_path_among pointer.now (map (λ path. string_bytes path) paths.now) ≡ false)) (λ status. Unit {0})) }
 {
-    if has_path(file, paths) {
-        return Ok(Err(tell_replaced(file, err)?));
+    if is_among(rt, file, paths) {
+        return Ok(Err(tell_replaced("image", file, err)?));
     }
-    if has_path(pointer, paths) {
-        return Ok(Err(tell_replaced(pointer, err)?));
+    if is_among(rt, pointer, paths) {
+        return Ok(Err(tell_replaced("image", pointer, err)?));
     }
     match read_files(rt, alloc, paths, err)? {
         Ok(files) => Ok(apart_of_files(alloc, folder, file, base, rsdp, paths, &files, err)?),

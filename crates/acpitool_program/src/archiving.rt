@@ -1,17 +1,18 @@
 //! The archive from which Linux takes the tables of a folder.
 
-ghost use Rattle.std.specs.Prelude.{◌≡◌, ◌⊎◌, map, string_bytes, IfOk, MatchResult};
+ghost use Rattle.std.specs.Prelude.{false, ◌≡◌, ◌⊎◌, map, string_bytes, IfOk, MatchResult};
 ghost use Rattle.std.specs.Io.KnownBytes.{Keeps};
 ghost use Rattle.acpi_cpio.specs.Archive.{named, tables_archive};
 ghost use Rattle.acpitool_program.specs.Archiving.{name_of, IsTableOf, IsTableIn, AreTablesIn, HasNoTable};
 ghost use Rattle.acpitool_program.specs.Archiving.{IsRefused, AreRefused, DontFit, ArchivesFiles, Archives};
 ghost use Rattle.acpitool_program.specs.Making.{IsWritten};
+ghost use Rattle.acpitool_program.specs.Replaced.{is_path_among};
 
 use crate::complaint::complain;
 use crate::fault::Fault;
-use crate::files::{files_in, read_file};
+use crate::files::{files_in, is_among, read_file};
 use crate::making::write_table;
-use crate::outcome::tell_unread;
+use crate::outcome::{tell_replaced, tell_unread};
 use acpi_cpio::archive::{ArchivedFile, tables_archive};
 use acpi_cpio::fault::CpioFault;
 use acpi_make::file_kind::FileKind;
@@ -124,7 +125,7 @@ fn write_archive<R: Files, O: Write, E: Write>(
     }
 }
 
-// Writes the archive of the tables in files.
+// Writes the archive of the tables in files. It isn't to replace one of them.
 fn archive_files<R: Files, O: Write, E: Write>(
     rt: &R,
     alloc: Global,
@@ -133,9 +134,14 @@ fn archive_files<R: Files, O: Write, E: Write>(
     out: &mut O,
     err: &mut E,
 ) -> io::Result<u8>
-    ensures { IfOk result (λ status. ArchivesFiles (map (λ path. string_bytes path) paths.now) file.now
+    ensures archives { IfOk result (λ status. ArchivesFiles (map (λ path. string_bytes path) paths.now) file.now
         (O.contents out.old) (O.contents out.new) (E.contents err.old) (E.contents err.new) status) }
+    ensures kept { IfOk result (λ status. status ≡ 0
+        → is_path_among file.now (map (λ path. string_bytes path) paths.now) ≡ false) }
 {
+    if is_among(rt, file, paths) {
+        return Ok(tell_replaced("archive", file, err)?);
+    }
     match read_tables(rt, alloc, paths, err)? {
         Ok(tables) => Ok(write_archive(rt, alloc, &tables, file, out, err)?),
         Err(status) => Ok(status),
@@ -144,8 +150,8 @@ fn archive_files<R: Files, O: Write, E: Write>(
 
 /// Writes the archive from which Linux takes the tables of a folder, in the order of their names, to a file, or to standard
 /// output if it is `-`. Each file of the folder has to be a table with the standard header: a line on `err` names the first
-/// that isn't one, and no archive is written. The status is 1 then or if the archive can't be written, and 2 if a file or the
-/// folder can't be read.
+/// that isn't one, and no archive is written. The status is 1 then, or if the archive would replace one of the files or can't be
+/// written, and 2 if a file or the folder can't be read.
 pub fn archive_folder<R: Files + AllocGlobal + Clone + Drop, O: Write, E: Write>(
     rt: &R,
     alloc: Global,

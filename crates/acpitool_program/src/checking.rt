@@ -6,6 +6,7 @@ ghost use Rattle.acpitool_program.specs.Checking.{AreCheckedAs, AreChecked};
 use crate::job::Job;
 use crate::machine::print_machine;
 use crate::outcome::worst_of;
+use crate::unread::tell_unread_blocks;
 use crate::visit::visit_words;
 use acpi_json::array::array_of;
 use std::alloc::Global;
@@ -14,7 +15,7 @@ use std::io::{Input, Write};
 use std::rt::Files;
 
 // Checks what files name. Prints the rules that each table breaks, and then those on several tables: objects of JSON, each in a
-// line, or lines. Returns the greatest status.
+// line, or lines. Prints on `err` which definition blocks have terms that can't be read. Returns the greatest status.
 fn check_words<R: Files + Input + AllocGlobal + Clone + Drop, O: Write, E: Write>(
     rt: &R,
     alloc: Global,
@@ -29,7 +30,8 @@ fn check_words<R: Files + Input + AllocGlobal + Clone + Drop, O: Write, E: Write
     let mut kept = Vec::new(alloc);
     let status = visit_words(rt, alloc, &Job::Checks(json), files, out, err, &mut kept)?;
     let across = print_machine(alloc, json, &kept, out)?;
-    Ok(worst_of(status, across))
+    let unread = tell_unread_blocks(alloc, &kept, err)?;
+    Ok(worst_of(worst_of(status, across), unread))
 }
 
 // Checks what files name, prints what is found as an array of JSON, and returns the greatest status.
@@ -51,7 +53,8 @@ fn check_as_json<R: Files + Input + AllocGlobal + Clone + Drop, O: Write, E: Wri
 }
 
 /// Checks what files name, prints what is found as an array of JSON or as lines, and returns the greatest status. What breaks
-/// rules on several tables comes last: all tables that were checked are those of one machine.
+/// rules on several tables comes last: all tables that were checked are those of one machine. A line on `err` names each
+/// definition block whose terms can't be read.
 pub fn check_all<R: Files + Input + AllocGlobal + Clone + Drop, O: Write, E: Write>(
     rt: &R,
     alloc: Global,

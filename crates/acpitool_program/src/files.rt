@@ -1,11 +1,13 @@
 //! Files and folders that are read, and files that are written.
 
-ghost use Rattle.std.specs.Prelude.{◌≡◌, ◌≢◌, IsTrue, IfOk, IfSome, codes};
+ghost use Rattle.std.specs.Prelude.{◌≡◌, ◌≢◌, true, IsTrue, IfOk, IfSome, map, string_bytes, codes};
+ghost use Rattle.acpitool_program.specs.Replaced.{is_same_path, is_path_among};
 
 use acpi_input::file::read_input;
 use std::alloc::Global;
 use std::fs::File;
 use std::io::{Error, ErrorKind, Input, Read, Write};
+use std::os::unix::fs::MetadataExt;
 use std::rt::Files;
 use std::{fs, io};
 
@@ -50,6 +52,37 @@ pub fn is_folder<R: Files>(rt: &R, word: &str) -> bool
 /// Returns whether a file or a folder has this path.
 pub fn is_there<R: Files>(rt: &R, path: &str) -> bool {
     fs::metadata(rt, path).is_ok()
+}
+
+// Returns whether the system says that two paths are those of one regular file.
+fn is_one_file<R: Files>(rt: &R, one: &str, other: &str) -> bool {
+    match (fs::metadata(rt, one), fs::metadata(rt, other)) {
+        (Ok(a), Ok(b)) => a.is_file() && a.ino() != 0 && a.ino() == b.ino() && a.dev() == b.dev(),
+        _ => false,
+    }
+}
+
+/// Returns whether two words name one file: they are the same, or the system says so. `-` is no file.
+pub fn is_same_file<R: Files>(rt: &R, one: &str, other: &str) -> bool
+    ensures file { result ≡ true → one.now ≢ codes "-" }
+    ensures same { is_same_path one.now other.now ≡ true → result ≡ true }
+{
+    if one == "-" || other == "-" {
+        return false;
+    }
+    one == other || is_one_file(rt, one, other)
+}
+
+/// Returns whether a word names one of the files with these paths.
+pub fn is_among<R: Files>(rt: &R, word: &str, paths: &[String]) -> bool
+    ensures { is_path_among word.now (map (λ path. string_bytes path) paths.now) ≡ true → result ≡ true }
+{
+    'paths: for path in paths {
+        if is_same_file(rt, word, path.as_str()) {
+            return true;
+        }
+    }
+    false
 }
 
 /// Returns the paths of a folder's files, in the order of their names. Folders in it aren't among them. A folder without files is

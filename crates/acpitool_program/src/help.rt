@@ -39,6 +39,7 @@ numbers that are reserved, and numbers outside their range. The line has the off
 bytes, and the section of the standard. FILE is as for show. A rule that a table of another standard breaks is a
 warning, since newer revisions of that standard may allow it. Then the tables of all files are compared, as those
 of one machine: numbers of one that another has to define, such as the APIC IDs of a SRAT, which are those of the MADT.
+Last comes a line on standard error for each definition block of which not all terms can be read.
 check --json prints an array of JSON with an object for each such rule.
 
 diff prints a line for each field in which two tables differ: its offset and its name, and its bytes in the first and
@@ -79,7 +80,7 @@ the path and the length of each file. A file that is there isn't replaced. As FI
 
 cpio writes the archive from which Linux takes tables in its initrd: the files of FOLDER in kernel/firmware/acpi, byte
 for byte as cpio -H newc makes it, with root as owner and the time 0. Each file has to be a table with the standard
-header. As FILE, - is standard output; a regular FILE is replaced as make does it.
+header. As FILE, - is standard output; a regular FILE is replaced as make does it, unless it is one of the tables.
 
 lay writes the image of the tables of FOLDER for the physical address BASE in hexadecimal, a multiple of 0x40. Each file
 has to be a table, an RSDP or a FACS, or a text whose name ends in .txt, .asl or .dsl, which make would make into one.

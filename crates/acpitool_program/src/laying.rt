@@ -1,6 +1,6 @@
 //! The image of the tables of a folder.
 
-ghost use Rattle.std.specs.Prelude.{◌≡◌, ◌⊎◌, ℕ, List, map, string_bytes, IfOk, IfErr, OnOk, MatchResult};
+ghost use Rattle.std.specs.Prelude.{false, ◌≡◌, ◌⊎◌, ℕ, List, map, string_bytes, IfOk, IfErr, OnOk, MatchResult};
 ghost use Rattle.std.specs.Io.KnownBytes.{Keeps, Appends};
 ghost use Rattle.std.specs.Option.{option_map};
 ghost use Rattle.acpi_compile.specs.Compiled.{is_asl};
@@ -9,18 +9,19 @@ ghost use Rattle.acpitool_program.specs.Image.{IsFoundImage};
 ghost use Rattle.acpitool_program.specs.Laying.{is_text, IsTableOf, OfTextOrNot, IsUnmade, MayBeLaid, IsFile, AreFiles};
 ghost use Rattle.acpitool_program.specs.Laying.{IsFileFault};
 ghost use Rattle.acpitool_program.specs.Laying.{IsNoFile, IsRefused, IsMisread};
-ghost use Rattle.acpitool_program.specs.Laying.{has_path, replaced_line, blamed};
+ghost use Rattle.acpitool_program.specs.Laying.{blamed};
 ghost use Rattle.acpitool_program.specs.Laying.{IsNotFound, HaveNoneLaid, IsNotLaid, IsFoundOf, IsImageOf, rsdp_line};
 ghost use Rattle.acpitool_program.specs.Laying.{IsSavedTo, IsSaved, HasNoImage, LaysFolder};
+ghost use Rattle.acpitool_program.specs.Replaced.{is_path_among};
 
 use crate::compiling::compile_text;
 use crate::complaint::complain;
 use crate::fault::Fault;
-use crate::files::{files_in, read_file};
+use crate::files::{files_in, is_among, read_file};
 use crate::image::find_tables;
 use crate::listing::tell_no_image;
 use crate::making::{make_text, save};
-use crate::outcome::tell_unread;
+use crate::outcome::{tell_replaced, tell_unread};
 use crate::text::check_kind;
 use acpi_compile::block::is_asl;
 use acpi_forms::kind::kind_of;
@@ -169,27 +170,6 @@ pub(crate) fn read_files<R: Files, E: Write>(
     Ok(Ok(files))
 }
 
-// Returns whether one of the paths is this one.
-pub(crate) fn has_path(file: &str, paths: &[String]) -> bool
-    ensures { result ≡ has_path file.now (map (λ path. string_bytes path) paths.now) }
-{
-    'paths: for path in paths {
-        if path.as_str() == file {
-            return true;
-        }
-    }
-    false
-}
-
-// Prints that an image would replace a table, and returns 1.
-pub(crate) fn tell_replaced<E: Write>(file: &str, err: &mut E) -> io::Result<u8>
-    ensures { IfOk result (λ status. (status ≡ 1)
-        × Appends (E.contents err.old) (E.contents err.new) (replaced_line file.now)) }
-{
-    writeln!(err, "{file}: the image would replace a table")?;
-    Ok(1)
-}
-
 // Returns what a fault is said of: the file that is a second one of its signature, or else the folder.
 pub(crate) fn blamed<'a>(folder: &'a str, paths: &'a [String], fault: LayFault) -> &'a str
     ensures { result.now ≡ blamed folder.now (map (λ path. string_bytes path) paths.now) fault }
@@ -258,14 +238,16 @@ fn image_of_paths<R: Files, E: Write>(
     paths: &[String],
     err: &mut E,
 ) -> io::Result<Result<Image, u8>>
-    ensures { IfOk result (λ image. MatchResult image
+    ensures image { IfOk result (λ image. MatchResult image
         (λ image. IsImageOf base (map (λ path. string_bytes path) paths.now) image
         × Keeps (E.contents err.old) (E.contents err.new))
         (λ status. IsNotLaid folder.now file.now base (map (λ path. string_bytes path) paths.now)
         (E.contents err.old) (E.contents err.new) status)) }
+    ensures kept { IfOk result (λ image. MatchResult image
+        (λ image. is_path_among file.now (map (λ path. string_bytes path) paths.now) ≡ false) (λ status. Unit {0})) }
 {
-    if has_path(file, paths) {
-        return Ok(Err(tell_replaced(file, err)?));
+    if is_among(rt, file, paths) {
+        return Ok(Err(tell_replaced("image", file, err)?));
     }
     match read_files(rt, alloc, paths, err)? {
         Ok(files) => Ok(image_of_files(alloc, folder, file, base, paths, &files, err)?),

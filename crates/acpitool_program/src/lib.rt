@@ -36,4 +36,5 @@ pub mod structures;
 pub mod terms;
 pub mod text;
 pub mod unpacking;
+pub mod unread;
 pub mod visit;

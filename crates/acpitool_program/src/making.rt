@@ -7,11 +7,12 @@ ghost use Rattle.std.specs.Io.KnownBytes.{Appends};
 ghost use Rattle.acpitool_program.specs.Making.{note, notes, IsChecked, warnings, held_line, IsJudged, same_line};
 ghost use Rattle.acpitool_program.specs.Making.{not_made, MadeOrNot, Saved, NotSaved};
 ghost use Rattle.acpitool_program.specs.Making.{IsWritten, MakesOf, MakesText, MakesWord, Makes};
+ghost use Rattle.acpitool_program.specs.Replaced.{is_same_path};
 
 use crate::compiling::compile_text;
 use crate::complaint::complain;
 use crate::fault::Fault;
-use crate::files::{read_word, write_file};
+use crate::files::{is_same_file, read_word, write_file};
 use crate::hint::{meant_in, push_hint};
 use crate::outcome::{tell_fault, tell_unread};
 use crate::structures::wrong_with;
@@ -318,8 +319,7 @@ fn tell_same<E: Write>(name: &str, err: &mut E) -> io::Result<u8>
 }
 
 /// Makes the text in a file, or on standard input, into a table, and writes it to another file, or to standard output. A table
-/// whose numbers are wrong is only written by force. A table doesn't replace its text: two words for one file are refused if they
-/// are the same, and aren't `-`.
+/// whose numbers are wrong is only written by force. A table doesn't replace its text: two words for one file are refused.
 pub fn make_file<R: Files + Input, O: Write, E: Write>(
     rt: &R,
     alloc: Global,
@@ -329,10 +329,11 @@ pub fn make_file<R: Files + Input, O: Write, E: Write>(
     out: &mut O,
     err: &mut E,
 ) -> io::Result<u8>
-    ensures { IfOk result (λ status. Makes force name.now file.now (O.contents out.old) (O.contents out.new)
+    ensures makes { IfOk result (λ status. Makes force name.now file.now (O.contents out.old) (O.contents out.new)
         (E.contents err.old) (E.contents err.new) status) }
+    ensures kept { IfOk result (λ status. status ≡ 0 → is_same_path file.now name.now ≡ false) }
 {
-    if file == name && file != "-" {
+    if is_same_file(rt, file, name) {
         return tell_same(name, err);
     }
     make_word(rt, alloc, force, name, file, out, err)

@@ -6,6 +6,7 @@ ghost use Rattle.acpi_dump.specs.Dump.{titled, is_dump, tables_of};
 ghost use Rattle.acpi_layout.specs.Addresses.{image_at};
 ghost use Rattle.acpitool_program.specs.Job.{gathers, checks, lists, asked};
 ghost use Rattle.acpitool_program.specs.Machine.{kept_by};
+ghost use Rattle.acpitool_program.specs.Replaced.{WouldReplace};
 ghost use Rattle.acpitool_program.specs.Outcome.{fault_line, fault_status, label, labelled};
 ghost use Rattle.acpitool_program.specs.Outcome.{AreOfTables, AreOfDump, AreOfImage, AreOfBytes, PrintedAs, KeptAs, in_image};
 
@@ -154,6 +155,14 @@ pub fn worst_of(a: u8, b: u8) -> u8
     ensures { result ≡ max a b }
 {
     if a < b { b } else { a }
+}
+
+/// Prints that a file would replace one of the tables that go into it, and returns 1.
+pub fn tell_replaced<E: Write>(what: &str, file: &str, err: &mut E) -> io::Result<u8>
+    ensures { IfOk result (WouldReplace what.now file.now (E.contents err.old) (E.contents err.new)) }
+{
+    writeln!(err, "{file}: the {what} would replace a table")?;
+    Ok(1)
 }
 
 // Returns the name of a table of a dump: that of the file, and the table's title.

@@ -173,12 +173,15 @@ fn parts_are_kept(rt: HostRuntime) -> Result<(), Fail> {
     has(&rt, "table.part", b"part")
 }
 
-// A table doesn't replace its text.
+// A table doesn't replace its text, by whatever path, nor by a link.
 #[test]
 fn texts_are_kept(rt: HostRuntime) -> Result<(), Fail> {
     write(&rt, "same", TEXT.as_bytes())?;
+    symlink(&rt, "same", "other")?;
     let line = "same: the table would replace its text\n";
-    ends(&rt, &["make", "same", "same"], 1, &[], &[line])?;
+    for file in ["same", "./same", "other"] {
+        ends(&rt, &["make", "same", file], 1, &[], &[line])?;
+    }
     has(&rt, "same", TEXT.as_bytes())
 }
 

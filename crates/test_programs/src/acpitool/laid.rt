@@ -393,14 +393,23 @@ fn not_found(rt: HostRuntime) -> Result<(), Fail> {
     ends(&rt, &["lay", "found", "found_image", "80"], 1, &[], &[line])
 }
 
-// The image doesn't replace one of the files.
+// Fails unless these words print this line, and the table stays as it is.
+fn keeps_table(rt: &HostRuntime, words: &[&str], line: &str) -> Result<(), Fail> {
+    ends(rt, words, 1, &[], &[line])?;
+    same(&fs::read(rt, "own/dsdt")?, &DSDT)
+}
+
+// Neither an image nor an archive replaces one of its files, by whatever path.
 #[test]
 fn tables_are_kept(rt: HostRuntime) -> Result<(), Fail> {
     fs::create_dir(&rt, "own")?;
     write(&rt, "own/dsdt", &DSDT)?;
     let line = "own/dsdt: the image would replace a table\n";
-    ends(&rt, &["lay", "own", "own/dsdt", "0"], 1, &[], &[line])?;
-    same(&fs::read(&rt, "own/dsdt")?, &DSDT)
+    keeps_table(&rt, &["lay", "own", "own/dsdt", "0"], line)?;
+    let line = "./own/dsdt: the image would replace a table\n";
+    keeps_table(&rt, &["lay", "own", "./own/dsdt", "0"], line)?;
+    let line = "own/../own/dsdt: the archive would replace a table\n";
+    keeps_table(&rt, &["cpio", "own", "own/../own/dsdt"], line)
 }
 
 // A folder that is missing, and a file that can't be written.
