@@ -122,8 +122,10 @@ pub(crate) enum Kept<'a> {
 fn is_four(a: u8, b: u8, c: u8, d: u8, segment: &[u8]) -> bool
     ensures { result ≡ bytes_eq (a ∷ b ∷ c ∷ d ∷ []) segment.now }
 {
-    let four: &[u8] = &[a, b, c, d];
-    four == segment
+    match segment {
+        [e, f, g, h] => a == *e && b == *f && c == *g && d == *h,
+        _ => false,
+    }
 }
 
 // Returns whether bytes have a segment somewhere.
