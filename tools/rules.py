@@ -3,8 +3,8 @@
     python3 -B tools/rules.py            compares the lists with what they have to be; the status is 1 if they differ
     python3 -B tools/rules.py renew      writes the lists
 
-The rules are the rows of crates/acpi_rules/src/standard.rt and machine.rt. Each name of a field has to be in the sources of the
-forms. Where docs/FIELDS.md has the structure of a rule, its field has to be there with the same offset and width.
+The rules are the rows of crates/acpi_rules/src/standard.rt, machine.rt and single.rt. Each name of a field has to be in the
+sources of the forms. Where docs/FIELDS.md has the structure of a rule, its field has to be there with the same offset and width.
 """
 import glob
 import re
@@ -13,13 +13,14 @@ import textwrap
 
 SOURCE = "crates/acpi_rules/src/standard.rt"
 MACHINE = "crates/acpi_rules/src/machine.rt"
+SINGLE = "crates/acpi_rules/src/single.rt"
 DOCUMENT = "docs/RULES.md"
 FIELDS = "docs/FIELDS.md"
 BEGIN, END = "<!-- rules: tools/rules.py makes these lines -->\n", "<!-- end of rules -->\n"
 BEGIN_SEVERAL = "<!-- rules on several tables: tools/rules.py makes these lines -->\n"
 END_SEVERAL = "<!-- end of rules on several tables -->\n"
-NAMES = {"Differs": "unique", "Apart": "overlap", "AtMost": "at-most", "Addresses": "no-overflow", "Counts": "count"}
-NAMES.update({"Agrees": "pair", "Needed": "required", "Needs": "needs", "Between": "range", "Multiple": "multiple"})
+NAMES = {"Differs": "unique", "Apart": "overlap", "Disjoint": "overlap", "AtMost": "at-most", "Addresses": "no-overflow"}
+NAMES.update({"Counts": "count", "Agrees": "pair", "Needed": "required", "Needs": "needs", "Between": "range", "Multiple": "multiple"})
 NAMES.update({"Points": "reference", "Refers": "reference", "Ends": "cycle", "Distances": "distance"})
 
 
@@ -114,6 +115,8 @@ def demand(text):
         return "differs in all of them"
     if kind == "Apart":
         return f"the numbers up to {spot(arguments[1])[2]} aren't those of another with the same {spot(arguments[0])[2]}"
+    if kind == "Disjoint":
+        return f"begins a range, as long as {spot(arguments[0])[2]} says, that has no address of another one"
     if kind == "AtMost":
         return f"isn't greater than {spot(arguments[0])[2]}"
     if kind == "Addresses":
@@ -190,13 +193,27 @@ def links(text):
         yield (table, "defined" if kind == "OneOf" else "below", field, allowed, section.strip('"')), fields
 
 
+def wrapped(line):
+    """Returns a line of a list."""
+    return textwrap.fill(line, 130, subsequent_indent="  ", break_long_words=False, break_on_hyphens=False)
+
+
+def once(text):
+    """Returns a line for each rule on tables that a machine has once."""
+    said = {"SINGLES": "`single`: there is one table of each of", "COPIED": "`copy`: no two tables have the same bytes, of each of"}
+    for name, body in re.findall(r"^const (\w+): \[Once; \d+\] = \[\n(.*?)^\];$", text, re.MULTILINE | re.DOTALL):
+        rows = re.findall(r'^    only!\("(.*?)", "(.*?)"\),$', body, re.MULTILINE)
+        if len(rows) != body.count("\n"):
+            stop(f"{SINGLE} has rows that can't be read")
+        yield wrapped(f"- {said[name]} " + "; ".join(f"{table} ({section})" for table, section in rows)) + "\n"
+
+
 def lists(text):
     """Returns a line for each list of numbers that are allowed."""
     for name, found in columns(text):
         if f"OneOf(&{name})" in text:
             numbers = "; ".join(it for _, it, _ in found)
-            line = f"- `{name}` of {found[0][0]}: {numbers}"
-            yield textwrap.fill(line, 130, subsequent_indent="  ", break_long_words=False, break_on_hyphens=False) + "\n"
+            yield wrapped(f"- `{name}` of {found[0][0]}: {numbers}") + "\n"
 
 
 def limits(text):
@@ -237,8 +254,7 @@ def listed(rows):
     for table in sorted(tables):
         out += ["", f"**{table}**", ""]
         for rule, field, allowed, section in tables[table]:
-            line = f"- `{rule}` of {field}: {allowed} ({section})"
-            out.append(textwrap.fill(line, 130, subsequent_indent="  ", break_long_words=False, break_on_hyphens=False))
+            out.append(wrapped(f"- `{rule}` of {field}: {allowed} ({section})"))
     return "\n".join(out[1:]) + "\n"
 
 
@@ -250,7 +266,7 @@ def replaced(document, begin, end, lines):
 
 
 def main():
-    text, machine = read(SOURCE), read(MACHINE)
+    text, machine, single = read(SOURCE), read(MACHINE), read(SINGLE)
     found, several = list(relations(text)), list(links(machine))
     rows = [*limits(text), *(it for it, _ in found)]
     if len(rows) != text.count("Limit {\n") + text.count("    rule!(") or len(several) != machine.count("    link!("):
@@ -258,13 +274,13 @@ def main():
     check_fields(found + [((table,), field) for _, fields in several for table, field in fields])
     document = read(DOCUMENT)
     wanted = replaced(document, BEGIN, END, listed(rows))
-    numbers = "".join(lists(machine)) + "\n"
+    numbers = "".join(lists(machine)) + "".join(once(single)) + "\n"
     wanted = replaced(wanted, BEGIN_SEVERAL, END_SEVERAL, numbers + listed(it for it, _ in several))
     if sys.argv[1:] == ["renew"]:
         with open(DOCUMENT, "w", encoding="utf-8") as file:
             file.write(wanted)
     elif document != wanted:
-        stop(f"the rules in {DOCUMENT} aren't those of {SOURCE} and {MACHINE}: `python3 -B tools/rules.py renew` writes them")
+        stop(f"the rules in {DOCUMENT} aren't those of {SOURCE}, {MACHINE} and {SINGLE}: `python3 -B tools/rules.py renew` writes them")
 
 
 main()

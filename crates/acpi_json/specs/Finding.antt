@@ -8,8 +8,8 @@ use Rattle.acpi_rules.specs.Finding.{Finding}
 use Rattle.acpi_rules.specs.Line.{severity, rule_name}
 use Rattle.acpi_rules.specs.declared.finding.Rule.{Rule}
 use Rattle.acpi_rules.specs.declared.finding.Rule.TheVariants.{ReservedBytes, ReservedBits, ReservedValue, StructureLength, Range}
-use Rattle.acpi_rules.specs.declared.finding.Rule.TheVariants.{Unique, Overlap, AtMost, Count, Pair}
-use Rattle.acpi_rules.specs.declared.finding.Rule.TheVariants.{Cycle, Distance, Multiple, Below}
+use Rattle.acpi_rules.specs.declared.finding.Rule.TheVariants.{Unique, Overlap, Disjoint, AtMost, Count, Pair}
+use Rattle.acpi_rules.specs.declared.finding.Rule.TheVariants.{Cycle, Distance, Multiple, Below, Single, Copy}
 
 -- a number of eight bytes
 unfoldable pub word : ℕ → List ℕ
@@ -31,6 +31,7 @@ other_member other = codes ",\"other\":" ++ string other
 -- the number below which the field's own has to be
 abbrev pub other_number : Rule → ℕ → List ℕ
 other_number Overlap n = member (codes ",\"also_at\":") n
+other_number Disjoint n = member (codes ",\"also_at\":") n
 other_number AtMost n = member (codes ",\"other_value\":") n
 other_number Pair n = member (codes ",\"other_value\":") n
 other_number Below n = member (codes ",\"below\":") n
@@ -42,7 +43,8 @@ relates rule n other = other_member other ++ other_number rule n
 
 -- The members that say what a rule allows, or what is wrong with the value: the bits or the number that is reserved; the numbers
 -- that are allowed; the offset of the part with the same number; how many bytes there are for entries; the number of which the
--- value isn't a multiple; the other field and what it has. Reserved bytes that aren't zero have none, nor has a circle.
+-- value isn't a multiple; how many tables there are; the other field and what it has. Reserved bytes that aren't zero have none,
+-- nor has a circle.
 unfoldable pub said : Rule → ℕ → ℕ → List ℕ → List ℕ
 said ReservedBytes n most other = []
 said Cycle n most other = []
@@ -54,6 +56,8 @@ said Distance n most other = range n most
 said Unique n most other = member (codes ",\"also_at\":") n
 said Count n most other = member (codes ",\"bytes\":") most
 said Multiple n most other = member (codes ",\"multiple_of\":") n
+said Single n most other = member (codes ",\"tables\":") n
+said Copy n most other = member (codes ",\"tables\":") n
 said rule n most other = relates rule n other
 
 -- the member with the name of a rule

@@ -49,7 +49,7 @@ fn push_other_number(rule: Rule, number: u64, text: &mut Vec<u8>) -> Result<(), 
     ensures { OnOk result (text.new.items ≡ text.old.items ++ other_number rule number) }
 {
     match rule {
-        Rule::Overlap => push_member(b",\"also_at\":", number, text),
+        Rule::Overlap | Rule::Disjoint => push_member(b",\"also_at\":", number, text),
         Rule::AtMost => push_member(b",\"other_value\":", number, text),
         Rule::Pair => push_member(b",\"other_value\":", number, text),
         Rule::Below => push_member(b",\"below\":", number, text),
@@ -86,6 +86,7 @@ fn push_said(
         Rule::Unique => push_member(b",\"also_at\":", number, text),
         Rule::Count => push_member(b",\"bytes\":", most, text),
         Rule::Multiple => push_member(b",\"multiple_of\":", number, text),
+        Rule::Single | Rule::Copy => push_member(b",\"tables\":", number, text),
         _ => push_relates(rule, number, other, text),
     }
 }

@@ -1,12 +1,12 @@
 -- The rules on two parts of a table that have something in common: `unique`, and `overlap`.
-use Rattle.std.specs.Prelude.{ℕ, nat_le, ◌&&◌, Bool, false, if◌then◌else◌, List, [], ◌∷◌, ◌++◌, Option, Some, None}
+use Rattle.std.specs.Prelude.{ℕ, ◌+◌, nat_le, nat_lt, ◌&&◌, Bool, false, if◌then◌else◌, List, [], ◌∷◌, ◌++◌, Option, Some, None}
 use Rattle.std.specs.Str.{bytes_eq}
-use Rattle.acpi_rules.specs.Demand.{Spot, Demand, differs, apart}
+use Rattle.acpi_rules.specs.Demand.{Spot, Demand, differs, apart, disjoint}
 use Rattle.acpi_rules.specs.Finding.{Finding}
 use Rattle.acpi_rules.specs.Item.{Item, bytes_in, number_in}
 use Rattle.acpi_rules.specs.Related.{relates}
 use Rattle.acpi_rules.specs.Rules.{number_of}
-use Rattle.acpi_rules.specs.declared.finding.Rule.TheVariants.{Unique, Overlap}
+use Rattle.acpi_rules.specs.declared.finding.Rule.TheVariants.{Unique, Overlap, Disjoint}
 
 -- two parts have the same bytes in a field, and ranges that have a number in common
 abbrev pub overlap : Spot → Spot → Item → Item → Bool
@@ -15,10 +15,16 @@ overlap group last a b =
     && nat_le (number_of a.field) (number_in last b.bytes)
     && nat_le (number_of b.field) (number_in last a.bytes)
 
--- whether two parts break a demand
+-- whether a part's range of addresses, which is as long as a field says, isn't empty, and ends after the first one of another's
+abbrev pub reaches : Spot → Item → Item → Bool
+reaches size one other =
+    nat_lt 0 (number_in size one.bytes) && nat_lt (number_of other.field) (number_of one.field + number_in size one.bytes)
+
+-- whether two parts break a demand; two ranges have an address in common if each isn't empty, and ends after the other begins
 abbrev pub clash : Demand → Item → Item → Bool
 clash differs a b = bytes_eq a.field.bytes b.field.bytes
 clash (apart group last) a b = overlap group last a b
+clash (disjoint size) a b = reaches size a b && reaches size b a
 clash demand a b = false
 
 -- the offset of the field of the first part with which one clashes
@@ -30,6 +36,7 @@ first_clash demand one (item ∷ items) = if clash demand one item then Some ite
 abbrev pub clash_findings : Demand → List ℕ → Item → Option ℕ → List Finding
 clash_findings differs section item (Some at) = relates Unique section at 0 [] item.field
 clash_findings (apart group last) section item (Some at) = relates Overlap section at 0 last.name item.field
+clash_findings (disjoint size) section item (Some at) = relates Disjoint section at 0 size.name item.field
 clash_findings demand section item before = []
 
 -- No part clashes with one before it: the parts before, and those that come.

@@ -19,6 +19,8 @@ spot_by s = record { offset = s.offset; width = s.width; name = s.name.now }
 -- - differs: no two of the parts have the same bytes there;
 -- - apart: the numbers from there to a last one have none in common with those of another part that has the same bytes in a
 --   third field;
+-- - disjoint: a range of addresses that begins there, and as long as another field says, has none in common with that of another
+--   part;
 -- - at_most: it isn't greater than another field of its part;
 -- - addresses: a range that begins there, and as long as another field says, ends before 2^64;
 -- - counts: as many entries of this size as it says stand between this offset and the part's end;
@@ -34,6 +36,7 @@ spot_by s = record { offset = s.offset; width = s.width; name = s.name.now }
 pub data Demand : Type 0 where
   differs : Demand
   apart : Spot → Spot → Demand
+  disjoint : Spot → Demand
   at_most : Spot → Demand
   addresses : Spot → Demand
   counts : ℕ → ℕ → Demand
@@ -50,6 +53,7 @@ pub data Demand : Type 0 where
 abbrev pub demand_by : DemandData → Demand
 demand_by demands.Differs = differs
 demand_by (demands.Apart group last) = apart (spot_by group) (spot_by last)
+demand_by (demands.Disjoint size) = disjoint (spot_by size)
 demand_by (demands.AtMost other) = at_most (spot_by other)
 demand_by (demands.Addresses size) = addresses (spot_by size)
 demand_by (demands.Counts start size) = counts start size

@@ -14,6 +14,7 @@ pub mod Relation
 pub mod Standard
 pub mod Link
 pub mod Across
+pub mod Single
 pub mod Machine
 pub mod Laws
 pub mod Difference

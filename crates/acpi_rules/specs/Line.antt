@@ -9,8 +9,9 @@ use Rattle.acpi_text.specs.Note.{trimmed}
 use Rattle.acpi_rules.specs.Finding.{Finding}
 use Rattle.acpi_rules.specs.declared.finding.Rule.{Rule}
 use Rattle.acpi_rules.specs.declared.finding.Rule.TheVariants.{ReservedBytes, ReservedBits, ReservedValue, StructureLength, Range}
-use Rattle.acpi_rules.specs.declared.finding.Rule.TheVariants.{Unique, Overlap, AtMost, NoOverflow, Count, Pair, Required}
-use Rattle.acpi_rules.specs.declared.finding.Rule.TheVariants.{Reference, Cycle, Distance, Needs, Multiple, Defined, Below}
+use Rattle.acpi_rules.specs.declared.finding.Rule.TheVariants.{Unique, Overlap, Disjoint, AtMost, NoOverflow, Count, Pair}
+use Rattle.acpi_rules.specs.declared.finding.Rule.TheVariants.{Required, Needs, Multiple, Reference, Cycle, Distance}
+use Rattle.acpi_rules.specs.declared.finding.Rule.TheVariants.{Defined, Below, Single, Copy}
 
 -- the tables that ACPI 6.5 defines; another standard defines each other table
 abbrev pub standard_tables : List (List ℕ)
@@ -40,6 +41,7 @@ rule_name StructureLength = codes "structure-length"
 rule_name Range = codes "range"
 rule_name Unique = codes "unique"
 rule_name Overlap = codes "overlap"
+rule_name Disjoint = codes "overlap"
 rule_name AtMost = codes "at-most"
 rule_name NoOverflow = codes "no-overflow"
 rule_name Count = codes "count"
@@ -52,6 +54,8 @@ rule_name Cycle = codes "cycle"
 rule_name Distance = codes "distance"
 rule_name Defined = codes "defined"
 rule_name Below = codes "below"
+rule_name Single = codes "single"
+rule_name Copy = codes "copy"
 
 -- a number in hexadecimal: two digits for each byte, from the highest that isn't zero
 abbrev pub hex_text : ℕ → List ℕ
@@ -92,17 +96,29 @@ below_text = codes " isn't below the "
 abbrev pub limit_text : ℕ → List ℕ → List ℕ
 limit_text n other = below_text ++ label other ++ codes ", which is " ++ decimal n
 
+-- what stands before a number of tables
+unfoldable pub machine_text : List ℕ
+machine_text = codes ": the machine has "
+
+-- how many tables a machine has, and which
+abbrev pub tables_text : ℕ → List ℕ → List ℕ
+tables_text n which = machine_text ++ decimal n ++ which
+
 -- what a finding on several fields says of the bytes of its field
 abbrev pub relates_text : Rule → ℕ → ℕ → List ℕ → List ℕ
 relates_text Unique number most other = codes ": also at " ++ decimal number
 relates_text Overlap number most other =
     codes " up to " ++ label other ++ codes ": also at " ++ decimal number
+relates_text Disjoint number most other =
+    codes " with " ++ label other ++ codes ": also at " ++ decimal number
 relates_text Count number most other = codes " in " ++ decimal most ++ codes " bytes"
 relates_text Multiple number most other = codes " isn't n * " ++ decimal number
 relates_text Reference number most other = codes " isn't the " ++ label other ++ codes " of such a structure"
 relates_text Cycle number most other = codes " leads to a circle"
 relates_text Defined number most other = codes " isn't any " ++ label other
 relates_text Below number most other = own_text most ++ limit_text number other
+relates_text Single number most other = tables_text number (codes " of them")
+relates_text Copy number most other = tables_text number (codes " with the same bytes")
 relates_text rule number most other = pair_text rule number most other
 
 -- what a finding says of the bytes of its field

@@ -7,6 +7,7 @@ use Rattle.acpi_rules.specs.Across.{links_findings}
 use Rattle.acpi_rules.specs.Demand.{Spot}
 use Rattle.acpi_rules.specs.Finding.{Finding}
 use Rattle.acpi_rules.specs.Link.{Column, Wanted, Link, one_of, below, index}
+use Rattle.acpi_rules.specs.Single.{singles, copied, singles_findings, copies_findings}
 use Rattle.acpi_rules.specs.Standard.{spot}
 use Rattle.acpi_rules.specs.declared.demand.Of.{Of}
 use Rattle.acpi_rules.specs.declared.demand.Of.TheVariants.{Whole, Each, Kind, Entries}
@@ -146,6 +147,11 @@ named =
     (index subspaces) "number of structures of PCCT" "ACPI 6.5, 5.2.21"
     ∷ []
 
--- The rules on several tables that a table breaks, by the tables of its machine, in the order of the rules.
+-- The rules on several tables that a table breaks, by the tables of its machine, of which it is one: those on its numbers, in the
+-- order of the rules, and then that it isn't the only one of its signature, or with its bytes.
 abbrev pub machine_findings : List (List ℕ) → List ℕ → List Finding
-machine_findings tables table = links_findings affinities tables table ++ links_findings named tables table
+machine_findings tables table =
+    links_findings affinities tables table
+    ++ links_findings named tables table
+    ++ singles_findings singles tables table
+    ++ copies_findings copied tables table

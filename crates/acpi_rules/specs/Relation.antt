@@ -5,7 +5,7 @@ use Rattle.std.specs.Str.{bytes_eq}
 use Rattle.acpi_base.specs.declared.walk.Walk.{Walk}
 use Rattle.acpi_rules.specs.Apart.{apart_findings}
 use Rattle.acpi_rules.specs.Chain.{chain_findings}
-use Rattle.acpi_rules.specs.Demand.{Demand, Relation, differs, apart, points, refers, ends, distances}
+use Rattle.acpi_rules.specs.Demand.{Demand, Relation, differs, apart, disjoint, points, refers, ends, distances}
 use Rattle.acpi_rules.specs.Finding.{Finding}
 use Rattle.acpi_rules.specs.Item.{Item, items}
 use Rattle.acpi_rules.specs.Matrix.{matrix_findings}
@@ -16,6 +16,7 @@ use Rattle.acpi_rules.specs.Reference.{targets, target_name, reference_findings}
 abbrev pub demand_findings : Demand → ℕ → List ℕ → List ℕ → List Item → List Finding
 demand_findings differs at section numbers parts = apart_findings differs section [] parts
 demand_findings (apart group last) at section numbers parts = apart_findings (apart group last) section [] parts
+demand_findings (disjoint size) at section numbers parts = apart_findings (disjoint size) section [] parts
 demand_findings (points types) at section numbers parts =
     flat_map (reference_findings section (target_name (points types)) numbers) parts
 demand_findings (refers kind spot) at section numbers parts =

@@ -9,8 +9,8 @@ use Rattle.acpi_rules.specs.declared.demand.Of.{Of}
 use Rattle.acpi_rules.specs.declared.demand.Of.TheVariants.{Whole, Each, Kind, Entries}
 use Rattle.acpi_rules.specs.declared.demand.When.{When}
 use Rattle.acpi_rules.specs.declared.demand.When.TheVariants.{Always, Is, Not}
-use Rattle.acpi_rules.specs.Demand.{Spot, Demand, Relation, differs, apart, at_most, addresses, counts, agrees, needed, needs}
-use Rattle.acpi_rules.specs.Demand.{between, multiple, points, refers, ends, distances}
+use Rattle.acpi_rules.specs.Demand.{Spot, Demand, Relation, differs, apart, disjoint, at_most, addresses, counts, agrees, needed}
+use Rattle.acpi_rules.specs.Demand.{needs, between, multiple, points, refers, ends, distances}
 use Rattle.acpi_rules.specs.Field.{table_fields}
 use Rattle.acpi_rules.specs.Finding.{Finding}
 use Rattle.acpi_rules.specs.Relation.{relations_findings}
@@ -108,12 +108,15 @@ ranges =
     ∷ always "SRAT" 36 "Reserved" 1 1 "ACPI 6.5, 5.2.16"
     ∷ always "XSDT" 0 "Entry" 1 0xffffffffffffffff "ACPI 6.5, 5.2.8"
     ∷ always "RSDT" 0 "Entry" 1 0xffffffff "ACPI 6.5, 5.2.7"
+    ∷ always "APIC" 0 "I/O APIC Address" 1 0xffffffff "ACPI 6.5, 5.2.12.3"
     ∷ always "APIC" 0 "Source" 0 15 "ACPI 6.5, 5.2.12.5"
     ∷ always "HEST" 0 "Number of Records to Pre-allocate" 1 0xffffffff "ACPI 6.5, 18.3.2"
     ∷ always "HEST" 0 "Max Sections Per Record" 1 0xffffffff "ACPI 6.5, 18.3.2"
     ∷ always "HMAT" 0 "Entry Base Unit" 1 0xffffffffffffffff "ACPI 6.5, 5.2.28.4"
     ∷ always "GTDT" 0 "GT Block Timer Count" 0 8 "ACPI 6.5, 5.2.25.1"
     ∷ always "GTDT" 0 "GT Frame Number" 0 7 "ACPI 6.5, 5.2.25.1"
+    ∷ always "HPET" 44 "Address" 1 0xffffffffffffffff "IA-PC HPET 1.0a, 3.2.4"
+    ∷ always "MCFG" 0 "Base Address" 1 0xffffffffffffffff "PCI Firmware 3.3, 4.1.2"
     ∷ []
 
 abbrev pub spot : ℕ → ℕ → String → Spot
@@ -138,6 +141,7 @@ numbered =
     ∷ rule "APIC" (Kind 1) Always (spot 2 1 "I/O APIC ID") differs "ACPI 6.5, 5.2.12.3"
     ∷ rule "APIC" (Kind 1) Always (spot 4 4 "I/O APIC Address") differs "ACPI 6.5, 5.2.12.3"
     ∷ rule "APIC" (Kind 1) Always (spot 8 4 "Global System Interrupt Base") differs "ACPI 6.5, 5.2.12.3"
+    ∷ rule "APIC" (Kind 2) Always (spot 3 1 "Source") differs "ACPI 6.5, 5.2.12.5"
     ∷ rule "APIC" (Kind 6) Always (spot 4 4 "Global System Interrupt Base") differs "ACPI 6.5, 5.2.12.9"
     ∷ rule "APIC" (Kind 6) Always (spot 8 8 "I/O SAPIC Address") differs "ACPI 6.5, 5.2.12.9"
     ∷ rule "APIC" (Kind 7) (Is (DWord 8) 1 1) (spot 3 2 "Local SAPIC ID") differs "ACPI 6.5, 5.2.12.10"
@@ -187,6 +191,10 @@ ordered =
     -- Buses of a segment.
     rule "MCFG" Each Always (spot 10 1 "Start Bus Number")
     (apart (spot 8 2 "PCI Segment Group Number") (spot 11 1 "End Bus Number")) "PCI Firmware 3.3, 4.1.2"
+    -- Ranges of addresses. Memory may come into a range of a SRAT that is hot-pluggable, and has a range of its own then.
+    ∷ rule "SRAT" (Kind 1) (Is (DWord 28) 3 1) (spot 8 8 "Base Address") (disjoint (spot 16 8 "Length")) "ACPI 6.5, 5.2.16.2"
+    ∷ rule "CEDT" (Kind 0) Always (spot 16 8 "Base") (disjoint (spot 24 8 "Length")) "CXL 3.0, 9.17.1"
+    ∷ rule "CEDT" (Kind 1) Always (spot 8 8 "Base HPA") (disjoint (spot 16 8 "Window Size")) "CXL 3.0, 9.17.1"
     -- Numbers that aren't greater than others.
     ∷ rule "MCFG" Each Always (spot 10 1 "Start Bus Number") (at_most (spot 11 1 "End Bus Number")) "PCI Firmware 3.3, 4.1.2"
     ∷ rule "DMAR" (Kind 1) Always (spot 8 8 "Reserved Memory Region Base Address")

@@ -1,7 +1,7 @@
 //! The rules on two parts of a table that have something in common.
 
 ghost use Rattle.std.specs.Prelude.{◌≡◌, ◌++◌, [], map, OnOk};
-ghost use Rattle.acpi_rules.specs.Apart.{overlap, clash, first_clash, clash_findings, apart_findings};
+ghost use Rattle.acpi_rules.specs.Apart.{overlap, reaches, clash, first_clash, clash_findings, apart_findings};
 ghost use Rattle.acpi_rules.specs.Demand.{spot_by, demand_by};
 ghost use Rattle.acpi_rules.specs.Finding.{noted};
 ghost use Rattle.acpi_rules.specs.Item.{item_by};
@@ -22,6 +22,14 @@ fn overlap(group: &Spot, last: &Spot, a: &Item<'_>, b: &Item<'_>) -> bool
         && number_of(&b.field) <= number_in(last, a.bytes)
 }
 
+// Returns whether a range isn't empty, and ends after the first address of another part's.
+fn reaches(size: &Spot, one: &Item<'_>, other: &Item<'_>) -> bool
+    ensures { result ≡ reaches (spot_by size.now) (item_by one.now) (item_by other.now) }
+{
+    let long = number_in(size, one.bytes);
+    long > 0 && number_of(&other.field).saturating_sub(number_of(&one.field)) < long
+}
+
 // Returns whether two parts break a demand.
 fn clash(demand: &Demand, a: &Item<'_>, b: &Item<'_>) -> bool
     ensures { result ≡ clash (demand_by demand.now) (item_by a.now) (item_by b.now) }
@@ -29,6 +37,7 @@ fn clash(demand: &Demand, a: &Item<'_>, b: &Item<'_>) -> bool
     match *demand {
         Demand::Differs => a.field.bytes == b.field.bytes,
         Demand::Apart(group, last) => overlap(&group, &last, a, b),
+        Demand::Disjoint(size) => reaches(&size, a, b) && reaches(&size, b, a),
         Demand::AtMost(_)
         | Demand::Addresses(_)
         | Demand::Counts(_, _)
@@ -85,6 +94,15 @@ fn check_clash<'a>(
                 other: last.name,
             };
             add_related(Rule::Overlap, &said, &item.field, findings)
+        }
+        (Demand::Disjoint(size), Some(at)) => {
+            let said = Said {
+                section,
+                number: at as u64,
+                most: 0,
+                other: size.name,
+            };
+            add_related(Rule::Disjoint, &said, &item.field, findings)
         }
         _ => Ok(()),
     }

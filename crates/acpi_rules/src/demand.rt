@@ -56,6 +56,9 @@ pub enum Demand {
     /// The numbers from the field to the second of these have none in common with those of another part that has the same bytes
     /// in the first.
     Apart(Spot, Spot),
+    /// A range of addresses that begins at the field, and is as long as this one says, has none in common with that of another
+    /// part.
+    Disjoint(Spot),
     /// The field isn't greater than this one.
     AtMost(Spot),
     /// A range that begins at the field, and is as long as this one says, ends before 2^64.

@@ -17,6 +17,9 @@ pub enum Rule {
     Unique,
     /// No two parts of a table have a number in common in their ranges. The number is the offset of the first of them.
     Overlap,
+    /// No two parts of a table have an address in common in ranges that have a length. The number is the offset of the first of
+    /// them.
+    Disjoint,
     /// A number isn't greater than that of another field. The number is the other field's.
     AtMost,
     /// A range of addresses ends before 2^64. The number is the length of the range.
@@ -41,6 +44,10 @@ pub enum Rule {
     Defined,
     /// A number is below one of another table of the machine. The number is that one, and the greatest number is the field's own.
     Below,
+    /// A machine has one table of a signature. The number is how many it has.
+    Single,
+    /// No two tables of a machine have the same bytes. The number is how many have those of this table.
+    Copy,
 }
 
 /// A rule that a field of a table breaks.

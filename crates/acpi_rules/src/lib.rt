@@ -23,5 +23,6 @@ pub mod reference;
 pub mod related;
 pub mod relation;
 pub mod rules;
+pub mod single;
 pub mod standard;
 pub mod table;

@@ -4,7 +4,7 @@ ghost use Rattle.std.specs.Prelude.{◌≡◌, ◌++◌, OnOk, string_bytes};
 ghost use Rattle.acpi_rules.specs.Finding.{noted};
 ghost use Rattle.acpi_rules.specs.Line.{standard_tables, contains, severity, rule_name, hex_text, one_text};
 ghost use Rattle.acpi_rules.specs.Line.{reserved_text, range_text, pair_text, own_text, below_text, limit_text};
-ghost use Rattle.acpi_rules.specs.Line.{relates_text};
+ghost use Rattle.acpi_rules.specs.Line.{machine_text, tables_text, relates_text};
 ghost use Rattle.acpi_rules.specs.Line.{says, field_text, source_text, finding_text};
 
 use crate::finding::{Finding, Rule};
@@ -66,7 +66,7 @@ impl Rule {
             Rule::StructureLength => "structure-length",
             Rule::Range => "range",
             Rule::Unique => "unique",
-            Rule::Overlap => "overlap",
+            Rule::Overlap | Rule::Disjoint => "overlap",
             Rule::AtMost => "at-most",
             Rule::NoOverflow => "no-overflow",
             Rule::Count => "count",
@@ -79,6 +79,8 @@ impl Rule {
             Rule::Distance => "distance",
             Rule::Defined => "defined",
             Rule::Below => "below",
+            Rule::Single => "single",
+            Rule::Copy => "copy",
         }
     }
 }
@@ -189,6 +191,23 @@ fn push_limit(number: u64, other: &str, text: &mut String) -> Result<(), AllocEr
     text.push_str(Buffer::new().format(number))
 }
 
+// Adds what stands before a number of tables.
+#[tactic(auto, unfolding(crate::specs::Line::machine_text))]
+fn push_machine(text: &mut String) -> Result<(), AllocError>
+    ensures { OnOk result (string_bytes text.new ≡ string_bytes text.old ++ machine_text) }
+{
+    text.push_str(": the machine has ")
+}
+
+// Adds how many tables a machine has, and which.
+fn push_tables(number: u64, which: &str, text: &mut String) -> Result<(), AllocError>
+    ensures { OnOk result (string_bytes text.new ≡ string_bytes text.old ++ tables_text number which.now) }
+{
+    push_machine(text)?;
+    text.push_str(Buffer::new().format(number))?;
+    text.push_str(which)
+}
+
 // Adds what a finding on several fields says of the bytes of its field.
 fn push_relates(
     rule: Rule,
@@ -206,6 +225,12 @@ fn push_relates(
         }
         Rule::Overlap => {
             text.push_str(" up to ")?;
+            push_label(other, text)?;
+            text.push_str(": also at ")?;
+            text.push_str(Buffer::new().format(number))
+        }
+        Rule::Disjoint => {
+            text.push_str(" with ")?;
             push_label(other, text)?;
             text.push_str(": also at ")?;
             text.push_str(Buffer::new().format(number))
@@ -233,6 +258,8 @@ fn push_relates(
             push_own(most, text)?;
             push_limit(number, other, text)
         }
+        Rule::Single => push_tables(number, " of them", text),
+        Rule::Copy => push_tables(number, " with the same bytes", text),
         _ => push_pair(rule, number, most, other, text),
     }
 }

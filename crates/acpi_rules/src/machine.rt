@@ -12,6 +12,7 @@ use crate::demand::{Among, Spot};
 use crate::finding::Finding;
 use crate::link::Wanted::{Below, Index, OneOf};
 use crate::link::{Column, Link};
+use crate::single::{check_copies, check_singles};
 use acpi_base::walk::Place::{DWord, Nowhere, Word};
 use acpi_text::form::Count::Field as FieldCount;
 use std::alloc::{AllocError, Global};
@@ -210,8 +211,9 @@ fn check_named<'a>(
     check_links(alloc, &NAMED, tables, table, findings)
 }
 
-/// Returns the rules on several tables that a table breaks, by the tables of its machine, in the order of the rules, and those of
-/// a rule in the order of the offsets of the fields. The only error is that memory ran out.
+/// Returns the rules on several tables that a table breaks, by the tables of its machine, of which it is one. Those on its
+/// numbers are in the order of the rules, and those of a rule in the order of the offsets of the fields. Then comes that it isn't
+/// the only one of its signature, or with its bytes. The only error is that memory ran out.
 pub fn machine_findings<'a>(
     alloc: Global,
     tables: &[&[u8]],
@@ -223,5 +225,7 @@ pub fn machine_findings<'a>(
     let mut findings = Vec::new(alloc);
     check_affinities(alloc, tables, table, &mut findings)?;
     check_named(alloc, tables, table, &mut findings)?;
+    check_singles(tables, table, &mut findings)?;
+    check_copies(tables, table, &mut findings)?;
     Ok(findings)
 }

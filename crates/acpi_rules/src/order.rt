@@ -250,6 +250,7 @@ fn check_numbers<'a>(
         Demand::Multiple(unit) => check_multiple(section, unit, item, findings),
         Demand::Differs
         | Demand::Apart(_, _)
+        | Demand::Disjoint(_)
         | Demand::Points(_)
         | Demand::Refers(_, _)
         | Demand::Ends

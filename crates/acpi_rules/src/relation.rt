@@ -34,7 +34,9 @@ fn check_demand<'a>(
         ++ demand_findings (demand_by demand.now) at section.now numbers.now (map item_by items.now)) }
 {
     match *demand {
-        Demand::Differs | Demand::Apart(_, _) => check_apart(demand, section, items, findings),
+        Demand::Differs | Demand::Apart(_, _) | Demand::Disjoint(_) => {
+            check_apart(demand, section, items, findings)
+        }
         Demand::Points(_) | Demand::Refers(_, _) => {
             check_references(demand, section, numbers, items, findings)
         }

@@ -10,8 +10,8 @@ ghost use Rattle.acpi_rules.specs.Standard.{bounded, referred, standard_findings
 
 use crate::allowed::Allowed;
 use crate::demand::Demand::{
-    Addresses, Agrees, Apart, AtMost, Between, Counts, Differs, Distances, Ends, Multiple, Needed,
-    Needs, Points, Refers,
+    Addresses, Agrees, Apart, AtMost, Between, Counts, Differs, Disjoint, Distances, Ends,
+    Multiple, Needed, Needs, Points, Refers,
 };
 use crate::demand::Of::{Each, Entries, Kind, Whole};
 use crate::demand::When::{Always, Is, Not};
@@ -54,7 +54,7 @@ const ALLOWED: [Allowed; 12] = [
 
 // The ranges of numbers in the fields of tables.
 #[rattlefmt::skip]
-const RANGES: [Limit; 26] = [
+const RANGES: [Limit; 29] = [
     Limit {
         table: "FACP", offset: 4, name: "Length", from: 116, to: 116,
         place: Place::Byte(8), mask: 255, is: 1, section: "ACPI 6.5, 5.2.9",
@@ -136,6 +136,10 @@ const RANGES: [Limit; 26] = [
         place: Place::Nowhere, mask: 0, is: 0, section: "ACPI 6.5, 5.2.7",
     },
     Limit {
+        table: "APIC", offset: 0, name: "I/O APIC Address", from: 1, to: 0xffff_ffff,
+        place: Place::Nowhere, mask: 0, is: 0, section: "ACPI 6.5, 5.2.12.3",
+    },
+    Limit {
         table: "APIC", offset: 0, name: "Source", from: 0, to: 15,
         place: Place::Nowhere, mask: 0, is: 0, section: "ACPI 6.5, 5.2.12.5",
     },
@@ -158,6 +162,14 @@ const RANGES: [Limit; 26] = [
     Limit {
         table: "GTDT", offset: 0, name: "GT Frame Number", from: 0, to: 7,
         place: Place::Nowhere, mask: 0, is: 0, section: "ACPI 6.5, 5.2.25.1",
+    },
+    Limit {
+        table: "HPET", offset: 44, name: "Address", from: 1, to: 0xffff_ffff_ffff_ffff,
+        place: Place::Nowhere, mask: 0, is: 0, section: "IA-PC HPET 1.0a, 3.2.4",
+    },
+    Limit {
+        table: "MCFG", offset: 0, name: "Base Address", from: 1, to: 0xffff_ffff_ffff_ffff,
+        place: Place::Nowhere, mask: 0, is: 0, section: "PCI Firmware 3.3, 4.1.2",
     },
 ];
 
@@ -192,12 +204,13 @@ macro_rules! rule {
 
 // Numbers and addresses that no two structures of a MADT have.
 #[rattlefmt::skip]
-const NUMBERED: [Relation; 22] = [
+const NUMBERED: [Relation; 23] = [
     rule!("APIC", Kind(0), Is(DWord(4), 1, 1), spot!(2, 1, "ACPI Processor UID"), Differs, "ACPI 6.5, 5.2.12.2"),
     rule!("APIC", Kind(0), Is(DWord(4), 1, 1), spot!(3, 1, "APIC ID"), Differs, "ACPI 6.5, 5.2.12.2"),
     rule!("APIC", Kind(1), Always, spot!(2, 1, "I/O APIC ID"), Differs, "ACPI 6.5, 5.2.12.3"),
     rule!("APIC", Kind(1), Always, spot!(4, 4, "I/O APIC Address"), Differs, "ACPI 6.5, 5.2.12.3"),
     rule!("APIC", Kind(1), Always, spot!(8, 4, "Global System Interrupt Base"), Differs, "ACPI 6.5, 5.2.12.3"),
+    rule!("APIC", Kind(2), Always, spot!(3, 1, "Source"), Differs, "ACPI 6.5, 5.2.12.5"),
     rule!("APIC", Kind(6), Always, spot!(4, 4, "Global System Interrupt Base"), Differs, "ACPI 6.5, 5.2.12.9"),
     rule!("APIC", Kind(6), Always, spot!(8, 8, "I/O SAPIC Address"), Differs, "ACPI 6.5, 5.2.12.9"),
     rule!("APIC", Kind(7), Is(DWord(8), 1, 1), spot!(3, 2, "Local SAPIC ID"), Differs, "ACPI 6.5, 5.2.12.10"),
@@ -243,10 +256,15 @@ const DIFFERENT: [Relation; 19] = [
 
 // Ranges of a table that have nothing in common, or that end where they may.
 #[rattlefmt::skip]
-const ORDERED: [Relation; 22] = [
+const ORDERED: [Relation; 25] = [
     // Buses of a segment.
     rule!("MCFG", Each, Always, spot!(10, 1, "Start Bus Number"),
         Apart(spot!(8, 2, "PCI Segment Group Number"), spot!(11, 1, "End Bus Number")), "PCI Firmware 3.3, 4.1.2"),
+    // Ranges of addresses. Memory may come into a range of a SRAT that is hot-pluggable, and has a range of its own then.
+    rule!("SRAT", Kind(1), Is(DWord(28), 3, 1), spot!(8, 8, "Base Address"), Disjoint(spot!(16, 8, "Length")),
+        "ACPI 6.5, 5.2.16.2"),
+    rule!("CEDT", Kind(0), Always, spot!(16, 8, "Base"), Disjoint(spot!(24, 8, "Length")), "CXL 3.0, 9.17.1"),
+    rule!("CEDT", Kind(1), Always, spot!(8, 8, "Base HPA"), Disjoint(spot!(16, 8, "Window Size")), "CXL 3.0, 9.17.1"),
     // Numbers that aren't greater than others.
     rule!("MCFG", Each, Always, spot!(10, 1, "Start Bus Number"), AtMost(spot!(11, 1, "End Bus Number")),
         "PCI Firmware 3.3, 4.1.2"),

@@ -38,7 +38,8 @@ check prints a line for each rule of the standard that a table breaks: reserved 
 numbers that are reserved, and numbers outside their range. The line has the offset and the name of the field, its
 bytes, and the section of the standard. FILE is as for show. A rule that a table of another standard breaks is a
 warning, since newer revisions of that standard may allow it. Then the tables of all files are compared, as those
-of one machine: numbers of one that another has to define, such as the APIC IDs of a SRAT, which are those of the MADT.
+of one machine: numbers of one that another has to define, such as the APIC IDs of a SRAT, which are those of the MADT,
+and tables that a machine has once, such as the MADT, or SSDTs with the same bytes.
 Last comes a line on standard error for each definition block of which not all terms can be read.
 check --json prints an array of JSON with an object for each such rule.
 

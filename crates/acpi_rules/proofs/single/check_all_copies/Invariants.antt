@@ -1,0 +1,10 @@
+use Rattle.std.proofs.Common.{◌≡◌, ◌++◌, map, drop}
+use Rattle.acpi_rules.specs.Finding.{noted}
+use Rattle.acpi_rules.specs.Single.{once_by, copies_findings}
+use Rattle.acpi_rules.proofs.single.check_all_copies.Given as goal
+
+abbrev pub invariant-rows : goal.invariant-rows
+invariant-rows l =
+    map noted l.findings.items
+    ++ copies_findings (map once_by (drop l.row-index l.rows)) (map (λ table. table.now) l.tables) l.table
+    ≡ map noted l.initial.findings.items ++ copies_findings (map once_by l.rows) (map (λ table. table.now) l.tables) l.table
