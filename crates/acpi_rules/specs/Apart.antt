@@ -15,7 +15,7 @@ overlap group last a b =
     && nat_le (number_of a.field) (number_in last b.bytes)
     && nat_le (number_of b.field) (number_in last a.bytes)
 
--- whether a part's range of addresses, which is as long as a field says, isn't empty, and ends after the first one of another's
+-- whether the range of a part, as long as a field says, isn't empty, and ends after the first address of that of another
 abbrev pub reaches : Spot → Item → Item → Bool
 reaches size one other =
     nat_lt 0 (number_in size one.bytes) && nat_lt (number_of other.field) (number_of one.field + number_in size one.bytes)

@@ -22,7 +22,7 @@ fn overlap(group: &Spot, last: &Spot, a: &Item<'_>, b: &Item<'_>) -> bool
         && number_of(&b.field) <= number_in(last, a.bytes)
 }
 
-// Returns whether a range isn't empty, and ends after the first address of another part's.
+// Returns whether the range of a part isn't empty, and ends after the first address of that of another.
 fn reaches(size: &Spot, one: &Item<'_>, other: &Item<'_>) -> bool
     ensures { result ≡ reaches (spot_by size.now) (item_by one.now) (item_by other.now) }
 {
