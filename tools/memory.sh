@@ -142,3 +142,5 @@ well=0
 each is_whole_or_says_memory 1 "$tool" template APIC
 "$tool" show "$work/table" >"$work/text"
 each is_made_or_says_memory 1 "$tool" make "$work/text" "$work/made"
+{ head -c 9 "$work/table" && printf '\377' && tail -c +11 "$work/table"; } >"$work/wrong"
+each is_made_or_says_memory 1 "$tool" repair "$work/wrong" "$work/made"

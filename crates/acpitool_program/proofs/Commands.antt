@@ -7,7 +7,7 @@ use Rattle.acpitool_program.specs.Command.{begins_with_json, style_of, begins_wi
 use Rattle.acpitool_program.specs.Laws.{Content, option_if, style_option, rsdp_if, content, AskForOne}
 use Rattle.acpitool_program.specs.declared.command.Command.{Command}
 use Rattle.acpitool_program.specs.declared.command.Command.TheVariants.{Help, Version, Show, Check, Image, Make, Template}
-use Rattle.acpitool_program.specs.declared.command.Command.TheVariants.{Disassemble, Names, Unpack, Cpio, Lay, Loader, Diff, Json, Tree}
+use Rattle.acpitool_program.specs.declared.command.Command.TheVariants.{Disassemble, Names, Unpack, Cpio, Lay, Loader, Repair, Diff, Json, Tree}
 use Rattle.acpitool_program.specs.declared.command.Style.{Style}
 use Rattle.acpitool_program.specs.declared.command.Verb.{Verb}
 use Rattle.acpitool_program.specs.declared.command.Verb.TheVariants as verbs
@@ -65,6 +65,8 @@ IsOf verbs.Lay more k =
     × AreLay rest folder file base × (k ≡ (codes "lay", folder ∷ file ∷ [], [], base, rsdp_if rsdp))
 IsOf verbs.Loader more k =
     (folder : List ℕ) × (to : List ℕ) × (more ≡ folder ∷ to ∷ []) × (k ≡ (codes "loader", folder ∷ to ∷ [], [], 0, []))
+IsOf verbs.Repair more k =
+    (name : List ℕ) × (file : List ℕ) × (more ≡ name ∷ file ∷ []) × (k ≡ (codes "repair", name ∷ file ∷ [], [], 0, []))
 IsOf verbs.Diff more k =
     (first : List ℕ) × (second : List ℕ) × (more ≡ first ∷ second ∷ []) × (k ≡ (codes "diff", first ∷ second ∷ [], [], 0, []))
 IsOf verbs.Tree more k =
@@ -112,6 +114,7 @@ one_of verbs.Lay more k l one two =
     let base = same_addresses these.0 those.0 one.4 two.4 word these.2 those.2 in
     cc (one.7, two.7, folder, file, base, option)
 one_of verbs.Loader more k l one two = cc (one.2, one.3, two.2, two.3)
+one_of verbs.Repair more k l one two = cc (one.2, one.3, two.2, two.3)
 one_of verbs.Diff more k l one two = cc (one.2, one.3, two.2, two.3)
 one_of verbs.Tree more k l one two = cc (one.1, one.2, two.1, two.2)
 
@@ -206,6 +209,8 @@ are_of words (Lay rsdp folder file base) all = inr (inr (record {
 }))
 are_of words (Loader folder to) all =
     inr (inr (record { verb = verbs.Loader; more = all.0; after = all.1; of = (_, _, all.2, refl) }))
+are_of words (Repair name file) all =
+    inr (inr (record { verb = verbs.Repair; more = all.0; after = all.1; of = (_, _, all.2, refl) }))
 are_of words (Diff first second) all =
     inr (inr (record { verb = verbs.Diff; more = all.0; after = all.1; of = (_, _, all.2, refl) }))
 are_of words (Tree dot file) all = inr (inr (record {

@@ -10,6 +10,7 @@ use Rattle.acpitool_program.specs.Listing.{NotRead}
 use Rattle.acpitool_program.specs.Loading.{ArePut, files_of, IsPutOut, LoadsFolder}
 use Rattle.acpi_loader.specs.declared.loader.Loader.{Loader}
 use Rattle.acpitool_program.specs.Making.{IsWritten}
+use Rattle.acpitool_program.specs.Repairing.{RepairsBytes, Repairs}
 use Rattle.acpitool_program.specs.Unpacking.{NotMade, AreUnpacked, AreFiles, UnpacksDump, UnpacksImage, UnpacksBy, Unpacks}
 use Rattle.acpitool_program.proofs.Streams.{keeps_kept, appends_kept}
 
@@ -147,6 +148,28 @@ loaded_kept folder to o o' o'' e e' s kept (inl all) = inl (record {
   put = put_out_kept all.loader to o o' o'' e e' s kept all.put;
 })
 loaded_kept folder to o o' o'' e e' s kept (inr none) = inr (none.0, keeps_kept o o' o'' none.1 kept)
+
+bytes_repaired : (name bytes file : List ℕ) (o o' o'' e e' : Option (List ℕ)) (s : ℕ) → Keeps o' o''
+    → RepairsBytes name bytes file o o' e e' s → RepairsBytes name bytes file o o'' e e' s
+bytes_repaired name bytes file o o' o'' e e' s kept (inl its) = inl (record {
+  fit = its.fit;
+  is = its.is;
+  between = its.between;
+  told = its.told;
+  wrote = written_kept _ file o o' o'' its.between e' s kept its.wrote;
+})
+bytes_repaired name bytes file o o' o'' e e' s kept (inr not) = inr (record {
+  why = not.why;
+  cause = not.cause;
+  complained = not.complained;
+  silent = keeps_kept o o' o'' not.silent kept;
+  is = not.is;
+})
+
+pub repaired_kept : (name file : List ℕ) (o o' o'' e e' : Option (List ℕ)) (s : ℕ) → Keeps o' o''
+    → Repairs name file o o' e e' s → Repairs name file o o'' e e' s
+repaired_kept name file o o' o'' e e' s kept (inl (bytes, all)) = inl (bytes, bytes_repaired name bytes file o o' o'' e e' s kept all)
+repaired_kept name file o o' o'' e e' s kept (inr not) = inr (unread_kept name o o' o'' e e' s kept not)
 
 bytes_compared : (first a second b : List ℕ) (o o' o'' e e' : Option (List ℕ)) (s : ℕ) → Keeps o' o''
     → ComparesBytes first a second b o o' e e' s → ComparesBytes first a second b o o'' e e' s

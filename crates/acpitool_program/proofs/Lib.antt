@@ -13,10 +13,13 @@ mod Machines
 mod Outcomes
 mod Paths
 mod Pointers
+mod Repaired
+mod Repairs
 mod Replaced
 mod Rests
 mod Runs
 mod Spaces
+mod Stays
 mod Streams
 mod Texts
 mod Unforced

@@ -2,7 +2,7 @@
 use Rattle.std.proofs.Common.{◌⊎◌, ℕ, Bool, true, false, List, Option, map, string_bytes, inl, inr}
 use Rattle.std.specs.Io.KnownBytes.{Keeps}
 use Rattle.acpitool_program.proofs.Aparts.{lays_kept}
-use Rattle.acpitool_program.proofs.Kept.{unread_kept, unpacked_kept, written_kept, archived_kept, loaded_kept, compared_kept}
+use Rattle.acpitool_program.proofs.Kept.{unread_kept, unpacked_kept, written_kept, archived_kept, loaded_kept, repaired_kept, compared_kept}
 use Rattle.acpitool_program.proofs.Streams.{keeps_kept, appends_kept}
 use Rattle.acpitool_program.specs.Checking.{AreChecked}
 use Rattle.acpitool_program.specs.Disassembly.{DisassemblesFile}
@@ -20,7 +20,7 @@ use Rattle.acpitool_program.specs.declared.command.Style.{Style}
 use Rattle.acpitool_program.specs.Program.{Ended, IsDone, IsShown, AreListed, IsBlockAmong, IsNoneAmong, IsBlockShown, NotStated, names_text, IsTemplated}
 use Rattle.acpitool_program.specs.declared.command.Command.{Command}
 use Rattle.acpitool_program.specs.declared.command.Command.TheVariants.{Help, Version, Show, Check, Image, Make, Template}
-use Rattle.acpitool_program.specs.declared.command.Command.TheVariants.{Disassemble, Names, Unpack, Cpio, Lay, Loader, Diff, Json, Tree}
+use Rattle.acpitool_program.specs.declared.command.Command.TheVariants.{Disassemble, Names, Unpack, Cpio, Lay, Loader, Repair, Diff, Json, Tree}
 
 printed_kept : (job : Job) (outcomes : List Outcome) (o o' o'' e e' : Option (List ℕ)) (s : ℕ) → Keeps o' o''
     → Printed job outcomes o o' e e' s → Printed job outcomes o o'' e e' s
@@ -249,6 +249,7 @@ done_kept o o' o'' e e' s (Unpack file folder base) kept done = unpacked_kept fi
 done_kept o o' o'' e e' s (Cpio folder file) kept done = archived_kept folder.now file.now o o' o'' e e' s kept done
 done_kept o o' o'' e e' s (Lay rsdp folder file base) kept done = lays_kept rsdp folder.now file.now base o o' o'' e e' s kept done
 done_kept o o' o'' e e' s (Loader folder to) kept done = loaded_kept folder.now to.now o o' o'' e e' s kept done
+done_kept o o' o'' e e' s (Repair name file) kept done = repaired_kept name.now file.now o o' o'' e e' s kept done
 done_kept o o' o'' e e' s (Diff first second) kept done = compared_kept first.now second.now o o' o'' e e' s kept done
 done_kept o o' o'' e e' s (Tree dot file) kept done = drawn_kept dot file.now o o' o'' e e' s kept done
 done_kept o o' o'' e e' s (Make force text file) kept done = made_kept force text.now file.now o o' o'' e e' s kept done

@@ -8,18 +8,18 @@ use Rattle.acpitool_program.specs.Checking.{AreCheckedAs}
 use Rattle.acpitool_program.specs.Job.{checks}
 use Rattle.acpitool_program.specs.Machine.{line_status, machine_text}
 use Rattle.acpitool_program.specs.Outcome.{fault_line, fault_status, worst, KeptAs, AreOfEach, AreOfWord}
-use Rattle.acpitool_program.specs.Unread.{IsTermsFault, AreLinesOf, HaveLines, AreTold}
+use Rattle.acpitool_program.specs.Unread.{IsTermsFault, AreUnreadLines, TellsUnread, TellsUnreadBlocks}
 use Rattle.acpitool_program.specs.declared.fault.Fault.{Fault}
 use Rattle.acpitool_program.proofs.Streams.{appends_none, appends_then}
 
 -- before the first table
-pub none_told : (stated : List (List ℕ × ℕ)) (further : List Callee) (err : Option (List ℕ)) → HaveLines stated further [] err err 0
+pub none_told : (stated : List (List ℕ × ℕ)) (further : List Callee) (err : Option (List ℕ)) → TellsUnread stated further [] err err 0
 none_told stated further err = record { lines = []; are = refl; wrote = appends_none err; is = refl }
 
 -- the line of a table after those of others
 lines_then : (stated : List (List ℕ × ℕ)) (further : List Callee) (tables : List (List ℕ × List ℕ)) (table : List ℕ × List ℕ) (lines : List ℕ) (fault : Option Fault)
-    → AreLinesOf stated further tables lines → IsTermsFault stated further table.1 fault
-    → AreLinesOf stated further (tables ++ table ∷ []) (lines ++ fault_line table.0 fault)
+    → AreUnreadLines stated further tables lines → IsTermsFault stated further table.1 fault
+    → AreUnreadLines stated further (tables ++ table ∷ []) (lines ++ fault_line table.0 fault)
 lines_then stated further [] table lines fault none is =
     (fault, [], is, ap (λ l. l ++ fault_line table.0 fault) none ∙ sym (append-nil (fault_line table.0 fault)), refl)
 lines_then stated further (first ∷ tables) table lines fault (its, more, of_first, same, others) is =
@@ -36,24 +36,24 @@ line_is_one : (name words more : List ℕ) → line_status (name ++ codes ": " +
 line_is_one [] words more = refl
 line_is_one (c ∷ name) words more = refl
 
-most_of_one : (n : ℕ) → max 0 n ≡ n
-most_of_one n = grind arith
+most_of_last : (n : ℕ) → max 0 n ≡ n
+most_of_last n = grind arith
 
 -- the status after a line
 status_then : (lines name : List ℕ) (fault : Option Fault) → max (line_status lines) (fault_status fault) ≡ line_status (lines ++ fault_line name fault)
 status_then [] name None = grind arith
 status_then [] name (Some fault) =
-    most_of_one 1 ∙ sym (line_is_one name (line_of fault) (10 ∷ []))
+    most_of_last 1 ∙ sym (line_is_one name (line_of fault) (10 ∷ []))
 status_then (c ∷ lines) name None = grind arith
 status_then (c ∷ lines) name (Some fault) = grind arith
 
 -- a table was told after others
 pub told_then : (stated : List (List ℕ × ℕ)) (further : List Callee) (tables all : List (List ℕ × List ℕ)) (table : List ℕ × List ℕ) (e e' e'' : Option (List ℕ))
     (fault : Option Fault) (before told status : ℕ) → tables ++ table ∷ [] ≡ all → status ≡ max before told
-    → HaveLines stated further tables e e' before → IsTermsFault stated further table.1 fault → Appends e' e'' (fault_line table.0 fault)
-    → told ≡ fault_status fault → HaveLines stated further all e e'' status
+    → TellsUnread stated further tables e e' before → IsTermsFault stated further table.1 fault → Appends e' e'' (fault_line table.0 fault)
+    → told ≡ fault_status fault → TellsUnread stated further all e e'' status
 told_then stated further tables all table e e' e'' fault before told status whole worst have is wrote one =
-    let P : List (List ℕ × List ℕ) → Type 0 = λ l. HaveLines stated further l e e'' status in
+    let P : List (List ℕ × List ℕ) → Type 0 = λ l. TellsUnread stated further l e e'' status in
     subst P whole (record {
       lines = have.lines ++ fault_line table.0 fault;
       are = lines_then stated further tables table have.lines fault have.are is;
@@ -64,10 +64,10 @@ told_then stated further tables all table e e' e'' fault before told status whol
 -- tables were checked, compared with each other, and their terms were read
 pub checked_and_told : (json : Bool) (files : List (List ℕ)) (kept : List (List ℕ × List ℕ)) (o o' o'' e e' e'' : Option (List ℕ))
     (a b u s t : ℕ) → KeptAs (checks json) (AreOfEach AreOfWord files) o o' e e' [] kept a
-    → Appends o' o'' (machine_text json kept) × (b ≡ line_status (machine_text json kept)) → AreTold kept e' e'' u
+    → Appends o' o'' (machine_text json kept) × (b ≡ line_status (machine_text json kept)) → TellsUnreadBlocks kept e' e'' u
     → s ≡ max a b → t ≡ max s u → AreCheckedAs json files o o'' e e'' t
 checked_and_told json files kept o o' o'' e e' e'' a b u s t one across told first last =
-    let P : List (List ℕ × List ℕ) → Type 0 = λ l. AreTold l e' e'' u in
+    let P : List (List ℕ × List ℕ) → Type 0 = λ l. TellsUnreadBlocks l e' e'' u in
     let Q : List (List ℕ × List ℕ) → Type 0 = λ l. Appends o' o'' (machine_text json l) in
     record {
       outcomes = one.outcomes;

@@ -26,9 +26,10 @@ verb_of word =
     else (if bytes_eq word (codes "cpio") then Some verbs.Cpio
     else (if bytes_eq word (codes "lay") then Some verbs.Lay
     else (if bytes_eq word (codes "loader") then Some verbs.Loader
+    else (if bytes_eq word (codes "repair") then Some verbs.Repair
     else (if bytes_eq word (codes "diff") then Some verbs.Diff
     else (if bytes_eq word (codes "tree") then Some verbs.Tree
-    else None))))))))))))
+    else None)))))))))))))
 
 verb_is : (verb : Verb) → verb_of (word_of verb) ≡ Some verb
 verb_is verbs.Show = refl
@@ -42,6 +43,7 @@ verb_is verbs.Unpack = refl
 verb_is verbs.Cpio = refl
 verb_is verbs.Lay = refl
 verb_is verbs.Loader = refl
+verb_is verbs.Repair = refl
 verb_is verbs.Diff = refl
 verb_is verbs.Tree = refl
 

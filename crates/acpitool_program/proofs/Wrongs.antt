@@ -7,14 +7,14 @@ use Rattle.acpitool_program.specs.Command.{IsAfterBase, IsAfterFile, IsAfterUnpa
 use Rattle.acpitool_program.specs.Laws.{WrongAskForNothing}
 use Rattle.acpitool_program.specs.declared.command.Command.{Command}
 use Rattle.acpitool_program.specs.declared.command.Command.TheVariants.{Help, Version, Show, Check, Image, Make, Template}
-use Rattle.acpitool_program.specs.declared.command.Command.TheVariants.{Disassemble, Names, Unpack, Cpio, Lay, Loader, Diff, Json, Tree}
+use Rattle.acpitool_program.specs.declared.command.Command.TheVariants.{Disassemble, Names, Unpack, Cpio, Lay, Loader, Repair, Diff, Json, Tree}
 use Rattle.acpitool_program.specs.declared.command.Verb.{Verb}
 use Rattle.acpitool_program.specs.declared.command.Verb.TheVariants as verbs
 use Rattle.acpitool_program.specs.declared.command.Wrong.{Wrong}
 use Rattle.acpitool_program.specs.declared.command.Wrong.TheVariants.{NoCommand, Unknown, Placed, NoFile, NoFileToCheck, NoImage, NoText}
 use Rattle.acpitool_program.specs.declared.command.Wrong.TheVariants.{NoTable, Base, Number, Twice, NoSignature, Signature, NoBlock}
 use Rattle.acpitool_program.specs.declared.command.Wrong.TheVariants.{NoPacked, NoFolder, NoTables, NoArchive}
-use Rattle.acpitool_program.specs.declared.command.Wrong.TheVariants.{NoImageFile, NoBase, NoPointer, NoFirst, NoSecond, NoDrawing}
+use Rattle.acpitool_program.specs.declared.command.Wrong.TheVariants.{NoImageFile, NoBase, NoPointer, NoDamaged, NoFirst, NoSecond, NoDrawing}
 
 -- ---- the words after a command
 
@@ -34,6 +34,7 @@ IsTaken verbs.Lay more =
     × AreLay rest folder file base
 IsTaken verbs.Loader more = (folder : List ℕ) × (to : List ℕ) × (more ≡ folder ∷ to ∷ [])
 IsTaken verbs.Tree more = (file : List ℕ) × (after_option verbs.Tree more ≡ file ∷ [])
+IsTaken verbs.Repair more = (name : List ℕ) × (file : List ℕ) × (more ≡ name ∷ file ∷ [])
 IsTaken verbs.Diff more = (first : List ℕ) × (second : List ℕ) × (more ≡ first ∷ second ∷ [])
 
 -- they ask for the usage, or are what the command takes
@@ -106,6 +107,8 @@ asked words (Lay rsdp folder file base) all = inr (inr (record {
 }))
 asked words (Loader folder to) all =
     inr (inr (record { verb = verbs.Loader; more = all.0; is = all.1.0; are = inr (all.1.1, (folder.now, to.now, all.2)) }))
+asked words (Repair name file) all =
+    inr (inr (record { verb = verbs.Repair; more = all.0; is = all.1.0; are = inr (all.1.1, (name.now, file.now, all.2)) }))
 asked words (Diff first second) all =
     inr (inr (record { verb = verbs.Diff; more = all.0; is = all.1.0; are = inr (all.1.1, (first.now, second.now, all.2)) }))
 asked words (Tree dot file) all =
@@ -266,7 +269,7 @@ wronged words (Unknown word) (inr (inr (inr (inr (inr (inr (inr (inr (inl third)
   is = third.after.0;
   are = inr (third.after.1, λ taken. cc (third.is, taken.2));
 }))
-wronged words (Unknown word) (inr (inr (inr (inr (inr (inr (inr (inr (inr (inr second)))))))))) = inr (inr (record {
+wronged words (Unknown word) (inr (inr (inr (inr (inr (inr (inr (inr (inr (inr (inl second))))))))))) = inr (inr (record {
   verb = verbs.Tree;
   more = second.more;
   is = second.after.0;
@@ -277,6 +280,12 @@ wronged words (Unknown word) (inr (inr (inr (inr (inr (inr (inr (inr (inr (inl s
   more = second.more;
   is = second.after.0;
   are = inr (second.after.1, λ taken. cc (second.is, taken.1));
+}))
+wronged words (Unknown word) (inr (inr (inr (inr (inr (inr (inr (inr (inr (inr (inr third))))))))))) = inr (inr (record {
+  verb = verbs.Repair;
+  more = third.more;
+  is = third.after.0;
+  are = inr (third.after.1, λ taken. cc (third.is, taken.2));
 }))
 wronged words (Placed word) option =
     inr (inr (record { verb = option.verb; more = option.more; is = option.is; are = inl (word.now, option.first, option.no_help, option.no_short_help) }))
@@ -316,8 +325,14 @@ wronged words (Signature word) all = inr (inr (record {
 }))
 wronged words NoText all =
     inr (inr (record { verb = verbs.Make; more = all.0; is = all.1.0; are = inr (all.1.1, λ taken. cc (all.2, taken.2)) }))
-wronged words NoTable all = inr (inr (record {
+wronged words NoTable (inl all) = inr (inr (record {
   verb = verbs.Make;
+  more = all.0;
+  is = all.1.0;
+  are = inr (all.1.1, λ taken. let one = all.2 in let two = ap length taken.2 in omega (arith, one, two));
+}))
+wronged words NoTable (inr all) = inr (inr (record {
+  verb = verbs.Repair;
   more = all.0;
   is = all.1.0;
   are = inr (all.1.1, λ taken. let one = all.2 in let two = ap length taken.2 in omega (arith, one, two));
@@ -345,6 +360,8 @@ wronged words NoPointer all = inr (inr (record {
   is = all.1.0;
   are = inr (all.1.1, λ taken. no_pointer all.0 taken.1 taken.0 all.2 all.3 taken.5);
 }))
+wronged words NoDamaged is =
+    inr (inr (record { verb = verbs.Repair; more = []; is = is; are = inr (refl, λ taken. cc (taken.2)) }))
 wronged words NoFirst is =
     inr (inr (record { verb = verbs.Diff; more = []; is = is; are = inr (refl, λ taken. cc (taken.2)) }))
 wronged words NoSecond all = inr (inr (record {
@@ -391,6 +408,7 @@ is_command words word verbs.Unpack none is = none.no_unpack is
 is_command words word verbs.Cpio none is = none.no_cpio is
 is_command words word verbs.Lay none is = none.no_lay is
 is_command words word verbs.Loader none is = none.no_loader is
+is_command words word verbs.Repair none is = none.no_repair is
 is_command words word verbs.Diff none is = none.no_diff is
 is_command words word verbs.Tree none is = none.no_tree is
 

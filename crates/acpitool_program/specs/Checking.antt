@@ -5,7 +5,7 @@ use Rattle.acpi_json.specs.Array.{array}
 use Rattle.acpitool_program.specs.Job.{checks}
 use Rattle.acpitool_program.specs.Machine.{machine_text, line_status}
 use Rattle.acpitool_program.specs.Outcome.{Outcome, AreTrueOutcomes, outputs, complaints, worst, kept_in, AreOfEach, AreOfWord}
-use Rattle.acpitool_program.specs.Unread.{AreTold}
+use Rattle.acpitool_program.specs.Unread.{TellsUnreadBlocks}
 
 -- Each file has its outcomes, which were printed in order. After them came the rules on several tables that the tables break that
 -- were checked, and a line for each definition block among these tables whose terms can't be read. The status is the greatest.
@@ -17,7 +17,7 @@ pub record AreCheckedAs (json : Bool) (files : List (List ℕ)) (out out' err er
   pub err_then : Option (List ℕ)
   pub complained : Appends err err_then (complaints outcomes)
   pub unread : ℕ
-  pub told : AreTold (kept_in outcomes) err_then err' unread
+  pub told : TellsUnreadBlocks (kept_in outcomes) err_then err' unread
   pub is : status ≡ max (max (worst outcomes) (line_status (machine_text json (kept_in outcomes)))) unread
 
 -- what is printed are the objects of an array

@@ -10,7 +10,7 @@ use Rattle.acpi_input.specs.Stated.{stated_by, stated}
 use Rattle.acpitool_program.specs.declared.command.Command.{Command}
 use Rattle.acpitool_program.specs.declared.command.Command.TheVariants.{Help, Version, Show, Check, Image, Make, Template}
 use Rattle.acpitool_program.specs.declared.command.Command.TheVariants.{Disassemble, Names, Unpack, Cpio, Lay, Loader, Diff, Json}
-use Rattle.acpitool_program.specs.declared.command.Command.TheVariants.{Tree}
+use Rattle.acpitool_program.specs.declared.command.Command.TheVariants.{Repair, Tree}
 use Rattle.acpitool_program.specs.declared.command.Misstated.{Misstated}
 use Rattle.acpitool_program.specs.declared.command.Misstated.TheVariants as misstated
 use Rattle.acpitool_program.specs.declared.command.Style.{Style}
@@ -23,7 +23,7 @@ use Rattle.acpitool_program.specs.declared.command.Wrong.TheVariants.{NoImage, N
 use Rattle.acpitool_program.specs.declared.command.Wrong.TheVariants.{Signature, NoBlock}
 use Rattle.acpitool_program.specs.declared.command.Wrong.TheVariants.{NoPacked, NoFolder, NoTables, NoArchive}
 use Rattle.acpitool_program.specs.declared.command.Wrong.TheVariants.{NoImageFile, NoBase, NoPointer}
-use Rattle.acpitool_program.specs.declared.command.Wrong.TheVariants.{NoFirst, NoSecond, NoDrawing}
+use Rattle.acpitool_program.specs.declared.command.Wrong.TheVariants.{NoDamaged, NoFirst, NoSecond, NoDrawing}
 
 -- whether a word is an option: a dash and more
 abbrev pub is_option : List ℕ → Bool
@@ -127,6 +127,7 @@ word_of verbs.Unpack = codes "unpack"
 word_of verbs.Cpio = codes "cpio"
 word_of verbs.Lay = codes "lay"
 word_of verbs.Loader = codes "loader"
+word_of verbs.Repair = codes "repair"
 word_of verbs.Diff = codes "diff"
 word_of verbs.Tree = codes "tree"
 
@@ -267,6 +268,7 @@ Asks words (Lay rsdp folder file base) =
     (more : List (List ℕ)) × (rest : List (List ℕ)) × AreAfter verbs.Lay words more × IsRest more rsdp rest
     × AreLay rest folder.now file.now base
 Asks words (Loader folder to) = (more : List (List ℕ)) × AreAfter verbs.Loader words more × (more ≡ folder.now ∷ to.now ∷ [])
+Asks words (Repair name file) = (more : List (List ℕ)) × AreAfter verbs.Repair words more × (more ≡ name.now ∷ file.now ∷ [])
 Asks words (Diff first second) =
     (more : List (List ℕ)) × AreAfter verbs.Diff words more × (more ≡ first.now ∷ second.now ∷ [])
 Asks words (Tree dot file) =
@@ -296,6 +298,7 @@ pub record IsNoCommand (words : List (List ℕ)) (word : List ℕ) : Type 0 wher
   pub no_cpio : word ≢ codes "cpio"
   pub no_lay : word ≢ codes "lay"
   pub no_loader : word ≢ codes "loader"
+  pub no_repair : word ≢ codes "repair"
   pub no_diff : word ≢ codes "diff"
   pub no_tree : word ≢ codes "tree"
 
@@ -385,6 +388,15 @@ pub record IsAfterLoaded (words : List (List ℕ)) (word : List ℕ) : Type 0 wh
   pub others : List (List ℕ)
   pub is : more ≡ folder ∷ to ∷ word ∷ others
 
+-- a word after `repair FILE OUT`
+pub record IsAfterRepaired (words : List (List ℕ)) (word : List ℕ) : Type 0 where
+  pub more : List (List ℕ)
+  pub after : AreAfter verbs.Repair words more
+  pub name : List ℕ
+  pub file : List ℕ
+  pub others : List (List ℕ)
+  pub is : more ≡ name ∷ file ∷ word ∷ others
+
 -- a word after `diff FILE FILE`
 pub record IsAfterCompared (words : List (List ℕ)) (word : List ℕ) : Type 0 where
   pub more : List (List ℕ)
@@ -448,7 +460,7 @@ IsWrong words (Unknown word) =
     IsNoCommand words word.now ⊎ IsNoOption false words word.now ⊎ IsAfterBase words word.now ⊎ IsAfterFile words word.now
     ⊎ IsAfterUnpacked words word.now ⊎ IsAfterArchive words word.now ⊎ IsAfterLaid words word.now
     ⊎ IsAfterCompared words word.now ⊎ IsAfterLoaded words word.now ⊎ IsAfterSignature words word.now
-    ⊎ IsAfterDrawn words word.now
+    ⊎ IsAfterDrawn words word.now ⊎ IsAfterRepaired words word.now
 IsWrong words (Placed word) = IsNoOption true words word.now
 IsWrong words NoFile = (more : List (List ℕ)) × AreAfter verbs.Show words more × (files_after more ≡ 0)
 IsWrong words NoFileToCheck =
@@ -462,7 +474,9 @@ IsWrong words NoBlock =
 IsWrong words (Signature word) =
     (more : List (List ℕ)) × AreAfter verbs.Template words more × (more ≡ word.now ∷ []) × (length word.now ≢ 4)
 IsWrong words NoText = (more : List (List ℕ)) × AreAfter verbs.Make words more × (unforced more ≡ [])
-IsWrong words NoTable = (more : List (List ℕ)) × AreAfter verbs.Make words more × (length (unforced more) ≡ 1)
+IsWrong words NoTable =
+    ((more : List (List ℕ)) × AreAfter verbs.Make words more × (length (unforced more) ≡ 1))
+    ⊎ ((more : List (List ℕ)) × AreAfter verbs.Repair words more × (length more ≡ 1))
 IsWrong words NoPacked = words ≡ codes "unpack" ∷ []
 IsWrong words NoFolder =
     ((more : List (List ℕ)) × AreAfter verbs.Unpack words more × (length more ≡ 1))
@@ -474,6 +488,7 @@ IsWrong words NoImageFile = HasLeft words 1
 IsWrong words NoBase = HasLeft words 2
 IsWrong words NoPointer =
     (more : List (List ℕ)) × AreAfter verbs.Lay words more × (begins_with_rsdp more ≡ true) × (length more ≡ 1)
+IsWrong words NoDamaged = words ≡ codes "repair" ∷ []
 IsWrong words NoFirst = words ≡ codes "diff" ∷ []
 IsWrong words NoSecond = (more : List (List ℕ)) × AreAfter verbs.Diff words more × (length more ≡ 1)
 IsWrong words NoDrawing =

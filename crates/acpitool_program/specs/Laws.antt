@@ -1,10 +1,14 @@
 -- What laws say.
 use Rattle.std.specs.Prelude.{◌≡◌, ℕ, Bool, true, false, List, [], ◌∷◌, ◌++◌, Option, Some, None, map, string_bytes, codes}
+use Rattle.acpi_base.specs.Bytes.{AreBytes}
+use Rattle.acpi_forms.specs.Kind.{kind_of}
 use Rattle.acpitool_program.specs.Command.{Asks, IsWrong}
+use Rattle.acpitool_program.specs.Repair.{repaired}
+use Rattle.acpitool_program.specs.Text.{IsKind}
 use Rattle.acpitool_program.specs.declared.command.Command.{Command}
 use Rattle.acpitool_program.specs.declared.command.Command.TheVariants.{Help, Version, Show, Check, Image, Make, Template}
 use Rattle.acpitool_program.specs.declared.command.Command.TheVariants.{Disassemble, Names, Unpack, Cpio, Lay, Loader, Diff, Json}
-use Rattle.acpitool_program.specs.declared.command.Command.TheVariants.{Tree}
+use Rattle.acpitool_program.specs.declared.command.Command.TheVariants.{Repair, Tree}
 use Rattle.acpitool_program.specs.declared.command.Style.{Style}
 use Rattle.acpitool_program.specs.declared.command.Style.TheVariants.{Usual, Bare, Bytes}
 use Rattle.acpitool_program.specs.declared.command.Wrong.{Wrong}
@@ -57,6 +61,7 @@ content (Make force text file) = (codes "make", text.now ∷ file.now ∷ [], []
 content (Unpack file folder base) = (codes "unpack", file.now ∷ folder.now ∷ [], [], base, [])
 content (Cpio folder file) = (codes "cpio", folder.now ∷ file.now ∷ [], [], 0, [])
 content (Lay rsdp folder file base) = (codes "lay", folder.now ∷ file.now ∷ [], [], base, rsdp_if rsdp)
+content (Repair name file) = (codes "repair", name.now ∷ file.now ∷ [], [], 0, [])
 content (Loader folder to) = (codes "loader", folder.now ∷ to.now ∷ [], [], 0, [])
 content (Tree dot file) = (codes "tree", file.now ∷ [], [], 0, option_if dot (codes "--dot"))
 content (Diff first second) = (codes "diff", first.now ∷ second.now ∷ [], [], 0, [])
@@ -68,3 +73,7 @@ AskForOne = (words : List (List ℕ)) (one two : Command) → Asks words one →
 -- wrong words ask for no command
 abbrev pub WrongAskForNothing : Type 0
 WrongAskForNothing = (words : List (List ℕ)) (wrong : Wrong) (command : Command) → IsWrong words wrong → ¬ Asks words command
+
+-- what is sound already stays as it is when it is repaired
+abbrev pub SoundStay : Type 0
+SoundStay = (bytes : List ℕ) → AreBytes bytes → IsKind (kind_of bytes) bytes → repaired bytes ≡ bytes

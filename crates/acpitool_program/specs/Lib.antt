@@ -21,6 +21,8 @@ pub mod Laying
 pub mod Apart
 pub mod Loading
 pub mod Comparing
+pub mod Repair
+pub mod Repairing
 pub mod Compiling
 pub mod Machine
 pub mod Outcome

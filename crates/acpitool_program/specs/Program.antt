@@ -25,12 +25,13 @@ use Rattle.acpitool_program.specs.Loading.{LoadsFolder}
 use Rattle.acpitool_program.specs.Making.{Makes}
 use Rattle.acpitool_program.specs.Outcome.{Outcome, AreTrueOutcomes, outputs, complaints, worst, kept_in, AreOfEach, AreOfTables}
 use Rattle.acpitool_program.specs.Outcome.{AreOfWord, PrintedAs}
+use Rattle.acpitool_program.specs.Repairing.{Repairs}
 use Rattle.acpitool_program.specs.Shown.{AreFurther}
 use Rattle.acpitool_program.specs.Unpacking.{Unpacks}
 use Rattle.acpitool_program.specs.declared.command.Command.{Command}
 use Rattle.acpitool_program.specs.declared.command.Command.TheVariants.{Help, Version, Show, Check, Image, Make, Template}
 use Rattle.acpitool_program.specs.declared.command.Command.TheVariants.{Disassemble, Names, Unpack, Cpio, Lay, Loader, Diff, Json}
-use Rattle.acpitool_program.specs.declared.command.Command.TheVariants.{Tree}
+use Rattle.acpitool_program.specs.declared.command.Command.TheVariants.{Repair, Tree}
 use Rattle.acpitool_program.specs.declared.command.Misstated.TheVariants as misstated
 use Rattle.acpitool_program.specs.declared.command.Style.{Style}
 use Rattle.acpi_asl.specs.declared.block.BlockText.{BlockText}
@@ -41,7 +42,7 @@ use Rattle.acpitool_program.specs.declared.command.Wrong.TheVariants.{NoImage, N
 use Rattle.acpitool_program.specs.declared.command.Wrong.TheVariants.{Signature, NoBlock}
 use Rattle.acpitool_program.specs.declared.command.Wrong.TheVariants.{NoPacked, NoFolder, NoTables, NoArchive}
 use Rattle.acpitool_program.specs.declared.command.Wrong.TheVariants.{NoImageFile, NoBase, NoPointer}
-use Rattle.acpitool_program.specs.declared.command.Wrong.TheVariants.{NoFirst, NoSecond, NoDrawing}
+use Rattle.acpitool_program.specs.declared.command.Wrong.TheVariants.{NoDamaged, NoFirst, NoSecond, NoDrawing}
 
 -- ---- how the program is used
 
@@ -51,7 +52,7 @@ usage =
     ++ codes " | diff FILE FILE"
     ++ codes " | disassemble FILE .. [NAME=N ..] | names [--json] FILE .. [NAME=N ..]"
     ++ codes " | image [--json] FILE [BASE]"
-    ++ codes " | make [--force] TEXT FILE | template SIGNATURE"
+    ++ codes " | make [--force] TEXT FILE | repair FILE OUT | template SIGNATURE"
     ++ codes " | unpack FILE FOLDER [BASE] | cpio FOLDER FILE | lay [--rsdp ADDRESS] FOLDER FILE BASE"
     ++ codes " | loader FOLDER OUT"
     ++ codes " | tree [--dot] FILE | --help | --version\n"
@@ -78,6 +79,7 @@ wrong_line NoArchive = codes "acpitool: no file for the archive\n"
 wrong_line NoImageFile = codes "acpitool: no file for the image\n"
 wrong_line NoBase = codes "acpitool: no address for the image\n"
 wrong_line NoPointer = codes "acpitool: no address for the RSDP\n"
+wrong_line NoDamaged = codes "acpitool: no file to repair\n"
 wrong_line NoFirst = codes "acpitool: no files to compare\n"
 wrong_line NoSecond = codes "acpitool: no second file to compare\n"
 wrong_line NoDrawing = codes "acpitool: no file to draw\n"
@@ -230,6 +232,7 @@ IsDone (Unpack file folder base) out out' err err' status = Unpacks file.now fol
 IsDone (Cpio folder file) out out' err err' status = Archives folder.now file.now out out' err err' status
 IsDone (Lay rsdp folder file base) out out' err err' status = Lays rsdp folder.now file.now base out out' err err' status
 IsDone (Loader folder to) out out' err err' status = LoadsFolder folder.now to.now out out' err err' status
+IsDone (Repair name file) out out' err err' status = Repairs name.now file.now out out' err err' status
 IsDone (Diff first second) out out' err err' status = Compares first.now second.now out out' err err' status
 IsDone (Tree dot file) out out' err err' status = Draws dot file.now out out' err err' status
 IsDone (Make force text file) out out' err err' status = Makes force text.now file.now out out' err err' status

@@ -31,22 +31,22 @@ abbrev pub IsTermsFault : List (List ℕ × ℕ) → List Callee → List ℕ �
 IsTermsFault stated further bytes fault = IsTermsFaultBy (has_terms bytes) stated further bytes fault
 
 -- these are the lines of the tables whose terms can't be read, in order
-abbrev pub AreLinesOf : List (List ℕ × ℕ) → List Callee → List (List ℕ × List ℕ) → List ℕ → Type 0
-AreLinesOf stated further [] lines = lines ≡ []
-AreLinesOf stated further (table ∷ tables) lines =
+abbrev pub AreUnreadLines : List (List ℕ × ℕ) → List Callee → List (List ℕ × List ℕ) → List ℕ → Type 0
+AreUnreadLines stated further [] lines = lines ≡ []
+AreUnreadLines stated further (table ∷ tables) lines =
     (fault : Option Fault) × (more : List ℕ) × IsTermsFault stated further table.1 fault
-    × (lines ≡ fault_line table.0 fault ++ more) × AreLinesOf stated further tables more
+    × (lines ≡ fault_line table.0 fault ++ more) × AreUnreadLines stated further tables more
 
 -- they were printed, and the status says whether there are any
-pub record HaveLines (stated : List (List ℕ × ℕ)) (further : List Callee) (tables : List (List ℕ × List ℕ))
+pub record TellsUnread (stated : List (List ℕ × ℕ)) (further : List Callee) (tables : List (List ℕ × List ℕ))
     (err err' : Option (List ℕ)) (status : ℕ) : Type 0 where
   pub lines : List ℕ
-  pub are : AreLinesOf stated further tables lines
+  pub are : AreUnreadLines stated further tables lines
   pub wrote : Appends err err' lines
   pub is : status ≡ line_status lines
 
 -- No numbers of arguments are stated: names take those of the objects of the block, and of all blocks of one machine.
-pub record AreTold (tables : List (List ℕ × List ℕ)) (err err' : Option (List ℕ)) (status : ℕ) : Type 0 where
+pub record TellsUnreadBlocks (tables : List (List ℕ × List ℕ)) (err err' : Option (List ℕ)) (status : ℕ) : Type 0 where
   pub further : List Callee
   pub are : AreFurther [] tables further
-  pub told : HaveLines [] further tables err err' status
+  pub told : TellsUnread [] further tables err err' status

@@ -58,6 +58,9 @@ pub enum Command<'a> {
     Lay(Option<u64>, &'a str, &'a str, u64),
     /// `loader FOLDER OUT`: the files that QEMU hands to firmware, of the tables of a folder, to new files of another folder.
     Loader(&'a str, &'a str),
+    /// `repair FILE OUT`: the table in a file, or on standard input where the word is `-`, with the right length and checksums,
+    /// to a file, or to standard output where the word is `-`.
+    Repair(&'a str, &'a str),
     /// `diff FILE FILE`: the fields in which the tables in two files differ, or on standard input where a word is `-`.
     Diff(&'a str, &'a str),
     /// `tree [--dot] FILE`: the structures of the table in a file, or on standard input where the word is `-`, as a tree. With
@@ -90,6 +93,7 @@ pub enum Verb {
     Cpio,
     Lay,
     Loader,
+    Repair,
     Diff,
     Tree,
 }
@@ -111,7 +115,7 @@ pub enum Wrong<'a> {
     NoImage,
     /// `make` has no text.
     NoText,
-    /// `make` has no file for the table.
+    /// `make` or `repair` has no file for the table.
     NoTable,
     /// `template` has no signature.
     NoSignature,
@@ -131,6 +135,8 @@ pub enum Wrong<'a> {
     NoBase,
     /// `lay --rsdp` has no address.
     NoPointer,
+    /// `repair` has no file.
+    NoDamaged,
     /// `diff` has no file.
     NoFirst,
     /// `diff` has no second file.
@@ -180,7 +186,8 @@ fn takes(verb: Verb, word: &str) -> bool
         Verb::Make => is_force(word),
         Verb::Show | Verb::Check | Verb::Image | Verb::Template => false,
         Verb::Disassemble | Verb::Names | Verb::Unpack | Verb::Cpio => false,
-        Verb::Lay | Verb::Loader | Verb::Diff | Verb::Tree => false,
+        Verb::Lay | Verb::Loader | Verb::Repair => false,
+        Verb::Diff | Verb::Tree => false,
     }
 }
 
@@ -271,7 +278,7 @@ fn leads(verb: Verb, word: &str) -> bool
         Verb::Lay => is_rsdp(word),
         Verb::Make | Verb::Template | Verb::Disassemble => false,
         Verb::Unpack | Verb::Cpio => false,
-        Verb::Loader | Verb::Diff => false,
+        Verb::Loader | Verb::Repair | Verb::Diff => false,
     }
 }
 
@@ -657,6 +664,20 @@ fn loader(words: &[String]) -> Result<Command<'_>, Wrong<'_>>
     }
 }
 
+// Returns what `repair` and these words, which aren't options, ask for.
+fn repair(words: &[String]) -> Result<Command<'_>, Wrong<'_>>
+    requires { first_option verbs.Repair (map (λ word. string_bytes word) words.now) ≡ None }
+    ensures { (all : List (List ℕ)) → all ≡ codes "repair" ∷ map (λ word. string_bytes word) words.now
+        → MatchResult result (Asks all) (IsWrong all) }
+{
+    match words {
+        [] => Err(Wrong::NoDamaged),
+        [_] => Err(Wrong::NoTable),
+        [name, file] => Ok(Command::Repair(name.as_str(), file.as_str())),
+        [_, _, extra, ..] => Err(Wrong::Unknown(extra.as_str())),
+    }
+}
+
 // Returns what `diff` and these words, which aren't options, ask for.
 fn diff(words: &[String]) -> Result<Command<'_>, Wrong<'_>>
     requires { first_option verbs.Diff (map (λ word. string_bytes word) words.now) ≡ None }
@@ -707,6 +728,7 @@ fn asked(verb: Verb, words: &[String]) -> Result<Command<'_>, Wrong<'_>>
             Verb::Cpio => cpio(words),
             Verb::Lay => lay(words),
             Verb::Loader => loader(words),
+            Verb::Repair => repair(words),
             Verb::Diff => diff(words),
             Verb::Tree => tree(words),
         },
@@ -737,6 +759,7 @@ pub fn parse(words: &[String]) -> Result<Command<'_>, Wrong<'_>>
         "cpio" => asked(Verb::Cpio, rest),
         "lay" => asked(Verb::Lay, rest),
         "loader" => asked(Verb::Loader, rest),
+        "repair" => asked(Verb::Repair, rest),
         "diff" => asked(Verb::Diff, rest),
         "tree" => asked(Verb::Tree, rest),
         word => Err(Wrong::Unknown(word)),

@@ -11,7 +11,7 @@ use std::io::Write;
 const USAGE: &str = "\
 usage: acpitool show [--no-offsets|--bytes] FILE .. [NAME=N ..] | show --json FILE .. | check [--json] FILE .. \
 | diff FILE FILE | disassemble FILE .. [NAME=N ..] | names [--json] FILE .. [NAME=N ..] | image [--json] FILE [BASE] \
-| make [--force] TEXT FILE | template SIGNATURE | unpack FILE FOLDER [BASE] | cpio FOLDER FILE \
+| make [--force] TEXT FILE | repair FILE OUT | template SIGNATURE | unpack FILE FOLDER [BASE] | cpio FOLDER FILE \
 | lay [--rsdp ADDRESS] FOLDER FILE BASE | loader FOLDER OUT | tree [--dot] FILE | --help | --version
 ";
 
@@ -71,6 +71,11 @@ and FILE may not be the same file. A regular FILE is replaced as a whole by FILE
 before. A device, a pipe or a link stays what it is, and takes the bytes. Of a text of ASL, as show and disassemble print
 it, changed or written by hand in the same form, make writes the definition block. Its ASL is this text, and else a line
 says which word of the text would be another.
+
+repair writes the table in FILE to OUT with the length and the checksums that it should have, as after a change with an
+editor of bytes; all other bytes stay as they are. The length is the number of bytes in FILE. A line says what each of them
+was, if it was wrong. As FILE, - is standard input, and as OUT, standard output. OUT is replaced as make does it, and may be
+FILE.
 
 template prints such a text of a table: all fields, mostly with zeros, and one structure of each kind. It knows
 the signatures that show knows by name, such as APIC, the MADT's. That of the RSDP is 'RSD '.
@@ -154,6 +159,7 @@ fn print_wrong<E: Write>(wrong: &Wrong<'_>, err: &mut E) -> io::Result<()>
         Wrong::NoImageFile => err.write_all(b"acpitool: no file for the image\n"),
         Wrong::NoBase => err.write_all(b"acpitool: no address for the image\n"),
         Wrong::NoPointer => err.write_all(b"acpitool: no address for the RSDP\n"),
+        Wrong::NoDamaged => err.write_all(b"acpitool: no file to repair\n"),
         Wrong::NoFirst => err.write_all(b"acpitool: no files to compare\n"),
         Wrong::NoSecond => err.write_all(b"acpitool: no second file to compare\n"),
         Wrong::NoDrawing => err.write_all(b"acpitool: no file to draw\n"),

@@ -30,6 +30,8 @@ pub mod offsets;
 pub mod outcome;
 pub mod placed;
 pub mod program;
+pub mod repair;
+pub mod repairing;
 pub mod show;
 pub mod shown;
 pub mod structures;

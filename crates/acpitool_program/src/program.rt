@@ -20,6 +20,7 @@ use crate::laying::lay_folder;
 use crate::listing::list_file;
 use crate::loading::load_folder;
 use crate::making::make_file;
+use crate::repairing::repair_file;
 use crate::show::{list_all, show_all};
 use crate::unpacking::unpack;
 use acpi_asl::block::BlockText;
@@ -167,6 +168,7 @@ pub fn run<R: Files + Input + AllocGlobal + Clone + Drop, O: Write, E: Write>(
             lay(rt, alloc, rsdp, folder, file, base, out, err)
         }
         Ok(Command::Loader(folder, to)) => load_folder(rt, alloc, folder, to, out, err),
+        Ok(Command::Repair(name, file)) => repair_file(rt, alloc, name, file, out, err),
         Ok(Command::Tree(dot, file)) => draw(rt, alloc, dot, file, out, err),
         Ok(Command::Diff(first, second)) => compare_files(rt, alloc, first, second, out, err),
         Ok(Command::Make(force, text, file)) => make_file(rt, alloc, force, text, file, out, err),

@@ -4,7 +4,7 @@ ghost use Rattle.std.specs.Prelude.{◌≡◌, ◌≤◌, true, [], map, length,
 ghost use Rattle.acpi_asl.specs.Block.{has_terms};
 ghost use Rattle.acpi_terms_text.specs.Objects.{callee_by};
 ghost use Rattle.acpitool_program.specs.Machine.{kept_by};
-ghost use Rattle.acpitool_program.specs.Unread.{IsTermsFaultBy, IsTermsFault, HaveLines, AreTold};
+ghost use Rattle.acpitool_program.specs.Unread.{IsTermsFaultBy, IsTermsFault, TellsUnread, TellsUnreadBlocks};
 
 use crate::fault::Fault;
 use crate::further::further_objects;
@@ -70,7 +70,7 @@ fn tell_blocks<E: Write>(
     tables: &[Kept],
     err: &mut E,
 ) -> io::Result<u8>
-    ensures { IfOk result (HaveLines stated.now (map callee_by further.now) (map kept_by tables.now)
+    ensures { IfOk result (TellsUnread stated.now (map callee_by further.now) (map kept_by tables.now)
         (E.contents err.old) (E.contents err.new)) }
 {
     let mut worst = 0;
@@ -85,7 +85,7 @@ fn tell_blocks<E: Write>(
 /// Prints a line for each definition block among tables whose terms can't be read, in the order of the tables. The blocks of one
 /// machine may name each other's objects. Returns 1 if there is a line, and 0 otherwise.
 pub fn tell_unread_blocks<E: Write>(alloc: Global, tables: &[Kept], err: &mut E) -> io::Result<u8>
-    ensures { IfOk result (AreTold (map kept_by tables.now) (E.contents err.old) (E.contents err.new)) }
+    ensures { IfOk result (TellsUnreadBlocks (map kept_by tables.now) (E.contents err.old) (E.contents err.new)) }
 {
     let stated = no_numbers(alloc)?;
     let further = further_objects(alloc, &stated, tables)?;

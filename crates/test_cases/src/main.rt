@@ -9,7 +9,7 @@
 //! aml 5b 80 "PRST" 00 "MTHD" 01 00 ; MTHD=1
 //! ```
 //!
-//! - `table`, `aml` and `dsdt` are commands of `acpiread`. `show`, `check`, `image`, `make` and `template` are those of
+//! - `table`, `aml` and `dsdt` are commands of `acpiread`. `show`, `check`, `image`, `make`, `repair` and `template` are those of
 //!   `acpitool`, as are `help`, `-h`, `--help` and `--version`. `template` and these four have no file. `json` stands for `show
 //!   --json`, `bare` for `show --no-offsets`, `bytes` for `show --bytes`, `findings` for `check --json`, `listing` for `image
 //!   --json`, `objects` for `names --json`, and `dot` for `tree --dot`. `both` is `disassemble`, and `make` has to make its text
@@ -25,10 +25,10 @@
 //!   it, the status is 1 if there is an error, and otherwise 0.
 //!
 //! The lines after a run that begin with four spaces are what it has to print, those after `! ` on standard error. After a `make`
-//! that writes its file they are the bytes of this file, with comments after `#`. FILE in them is the name of the run's file, and
-//! `..` is any lines. `lnot*254` is 254 of these lines, each two spaces further in than the line before, and the lines after them
-//! are within the last. Runs right after one another have the same lines. `#` begins a comment at the left margin. An empty line
-//! or a comment ends a case.
+//! or a `repair` that writes its file they are the bytes of this file, with comments after `#`. FILE in them is the name of the
+//! run's file, and `..` is any lines. `lnot*254` is 254 of these lines, each two spaces further in than the line before, and the
+//! lines after them are within the last. Runs right after one another have the same lines. `#` begins a comment at the left
+//! margin. An empty line or a comment ends a case.
 #![tactic(auto)]
 
 mod cases;

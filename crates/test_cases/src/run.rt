@@ -9,7 +9,7 @@ use std::{io, str};
 /// The name of the file that a run is given.
 pub const FILE: &str = "FILE";
 
-/// The name of the file that `make` writes.
+/// The name of the file that `make` and `repair` write.
 pub const MADE: &str = "MADE";
 
 /// A run: the words of its program, the bytes of its file, and the status that the words after a semicolon state.
@@ -64,7 +64,7 @@ fn push_file(words: &mut Vec<String>, base: Option<&str>) -> io::Result<()> {
 fn push_files(words: &mut Vec<String>, command: &str, base: Option<&str>) -> io::Result<()> {
     match command {
         "template" | "help" | "-h" | "--help" | "--version" => Ok(()),
-        "make" => {
+        "make" | "repair" => {
             push(words, FILE)?;
             push(words, MADE)
         }

@@ -7,7 +7,7 @@ use std::test::Fail;
 const USAGE: &str = "\
 usage: acpitool show [--no-offsets|--bytes] FILE .. [NAME=N ..] | show --json FILE .. | check [--json] FILE .. \
 | diff FILE FILE | disassemble FILE .. [NAME=N ..] | names [--json] FILE .. [NAME=N ..] | image [--json] FILE [BASE] \
-| make [--force] TEXT FILE | template SIGNATURE | unpack FILE FOLDER [BASE] | cpio FOLDER FILE \
+| make [--force] TEXT FILE | repair FILE OUT | template SIGNATURE | unpack FILE FOLDER [BASE] | cpio FOLDER FILE \
 | lay [--rsdp ADDRESS] FOLDER FILE BASE | loader FOLDER OUT | tree [--dot] FILE | --help | --version
 ";
 
@@ -170,6 +170,9 @@ fn wrong_makes(rt: HostRuntime) -> Result<(), Fail> {
             (&["make", "x", "y", "z"], "unknown word z\n"),
             (&["make", "x", "--all"], "unknown word --all\n"),
             (&["make", "--force"], "no text to make\n"),
+            (&["repair"], "no file to repair\n"),
+            (&["repair", "x"], "no file for the table\n"),
+            (&["repair", "x", "y", "z"], "unknown word z\n"),
             (&["make", "--force", "x"], "no file for the table\n"),
             (&["make", "x", "--force"], "no file for the table\n"),
             (&["make", "x", "--force", "y", "z"], "unknown word z\n"),

@@ -43,6 +43,10 @@ pub returns-in-Lay : goal.returns-in-Lay
 returns-in-Lay c = λ all is. c.lay.ensures all
     (is ∙ ap (λ (verb : Verb). word_of verb ∷ map (λ word. string_bytes word) c.args.words.now) c.in-Lay.is)
 
+pub returns-in-Repair : goal.returns-in-Repair
+returns-in-Repair c = λ all is. c.repair.ensures all
+    (is ∙ ap (λ (verb : Verb). word_of verb ∷ map (λ word. string_bytes word) c.args.words.now) c.in-Repair.is)
+
 pub returns-in-Diff : goal.returns-in-Diff
 returns-in-Diff c = λ all is. c.diff.ensures all
     (is ∙ ap (λ (verb : Verb). word_of verb ∷ map (λ word. string_bytes word) c.args.words.now) c.in-Diff.is)

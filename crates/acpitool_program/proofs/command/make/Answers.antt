@@ -6,7 +6,7 @@ pub returns-in_default : goal.returns-in_default
 returns-in_default c = λ all is. (map (λ word. string_bytes word) c.args.words.now, (is, c.requires), no_word _ c.in_default.ensures)
 
 pub returns-in_default-unforced : goal.returns-in_default-unforced
-returns-in_default-unforced c = λ all is. (
+returns-in_default-unforced c = λ all is. inl (
   map (λ word. string_bytes word) c.args.words.now,
   (is, c.requires),
   one_word _ c.in-Some.text.now c.in-Some.ensures c.in_default-unforced.ensures,

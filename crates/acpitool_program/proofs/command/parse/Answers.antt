@@ -86,6 +86,11 @@ returns-in-lay c = c.asked-in-lay.ensures _
     (front_of_all (λ word. string_bytes word) c.args.words.now c.word-item.result _
     (sym c.as_str.ensures.value ∙ c.in-lay.is) c.word-item.is c.in-len1-up.len_at_least)
 
+pub returns-in-repair : goal.returns-in-repair
+returns-in-repair c = c.asked-in-repair.ensures _
+    (front_of_all (λ word. string_bytes word) c.args.words.now c.word-item.result _
+    (sym c.as_str.ensures.value ∙ c.in-repair.is) c.word-item.is c.in-len1-up.len_at_least)
+
 pub returns-in-diff : goal.returns-in-diff
 returns-in-diff c = c.asked-in-diff.ensures _
     (front_of_all (λ word. string_bytes word) c.args.words.now c.word-item.result _

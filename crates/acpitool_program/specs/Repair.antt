@@ -1,0 +1,87 @@
+-- A table with the length and the checksums that its bytes should have.
+use Rattle.std.specs.Prelude.{ℕ, ◌+◌, max, ◌==◌, ◌&&◌, nat_lt, Bool, if◌then◌else◌, List, [], ◌∷◌, ◌++◌, Option, Some, None}
+use Rattle.std.specs.Prelude.{length, sum, take, slice_index, codes}
+use Rattle.std.specs.Fmt.{decimal}
+use Rattle.acpi_base.specs.Bytes.{le, put, complement}
+use Rattle.acpi_dump.specs.Dump.{is_dump}
+use Rattle.acpi_forms.specs.Kind.{kind_of}
+use Rattle.acpi_make.specs.declared.file_kind.FileKind.{FileKind}
+use Rattle.acpi_make.specs.declared.file_kind.FileKind.TheVariants.{Rsdp, Facs, Cdat, S3pt, Table}
+use Rattle.acpitool_program.specs.declared.repair.Seal.{Seal}
+use Rattle.acpitool_program.specs.declared.repair.Seal.TheVariants.{Length, Checksum, FrontChecksum}
+use Rattle.acpitool_program.specs.declared.repair.Unfit.{Unfit}
+use Rattle.acpitool_program.specs.declared.repair.Unfit.TheVariants.{Dump, Short, Long}
+
+-- ---- the fields of each kind
+
+-- whether bytes are a pointer of revision 0 or 1, which has 20 bytes and no length (ACPI 6.5, 5.2.5.3)
+abbrev pub is_short_pointer : List ℕ → Bool
+is_short_pointer bytes = length bytes == 20 && nat_lt (slice_index bytes 15) 2
+
+-- the fields of bytes of a kind that depend on the other bytes, in the order in which they are set
+abbrev pub seals_as : FileKind → List ℕ → List Seal
+seals_as Table bytes = Length 4 ∷ Checksum 9 ∷ []
+seals_as Rsdp bytes =
+    if is_short_pointer bytes then FrontChecksum 8 ∷ []
+    else Length 20 ∷ FrontChecksum 8 ∷ Checksum 32 ∷ []
+seals_as Facs bytes = Length 4 ∷ []
+seals_as S3pt bytes = Length 4 ∷ []
+seals_as Cdat bytes = Length 0 ∷ Checksum 5 ∷ []
+
+-- how many bytes there have to be
+abbrev pub least : FileKind → List ℕ → ℕ
+least Table bytes = 36
+least Rsdp bytes = if is_short_pointer bytes then 20 else 36
+least Facs bytes = 64
+least S3pt bytes = 8
+least Cdat bytes = 16
+
+-- ---- bytes that are no table whatever these fields have
+
+-- bytes of a kind are too few, or more than a length can say
+abbrev pub misfit_as : FileKind → List ℕ → Option Unfit
+misfit_as kind bytes =
+    if nat_lt (length bytes) (least kind bytes) then Some (Short (least kind bytes))
+    else (if nat_lt 0xffffffff (length bytes) then Some Long else None)
+
+abbrev pub misfit : List ℕ → Option Unfit
+misfit bytes = if is_dump bytes then Some Dump else misfit_as (kind_of bytes) bytes
+
+abbrev pub why_unfit : Unfit → List ℕ
+why_unfit Dump = codes "a dump of tables, which unpack writes one by one"
+why_unfit (Short least) = codes "fewer than " ++ decimal least ++ codes " bytes"
+why_unfit Long = codes "4294967296 bytes or more"
+
+-- ---- setting them
+
+-- the bytes with their number in the four bytes at an offset
+abbrev pub with_length : ℕ → List ℕ → List ℕ
+with_length at bytes = put at (le 4 (length bytes)) bytes
+
+-- the bytes with a byte at an offset that makes the first `count` of them sum to zero modulo 256
+abbrev pub with_sum : ℕ → ℕ → List ℕ → List ℕ
+with_sum at count bytes =
+    put at (complement (sum (take count (put at (0 ∷ []) bytes))) ∷ []) (put at (0 ∷ []) bytes)
+
+abbrev pub set_seal : Seal → List ℕ → List ℕ
+set_seal (Length at) bytes = with_length at bytes
+set_seal (Checksum at) bytes = with_sum at (length bytes) bytes
+set_seal (FrontChecksum at) bytes = with_sum at 20 bytes
+
+abbrev pub set_seals : List Seal → List ℕ → List ℕ
+set_seals [] bytes = bytes
+set_seals (seal ∷ seals) bytes = set_seals seals (set_seal seal bytes)
+
+-- how many bytes a field needs
+abbrev pub needs : Seal → ℕ
+needs (Length at) = at + 4
+needs (Checksum at) = at + 1
+needs (FrontChecksum at) = max (at + 1) 20
+
+abbrev pub need : List Seal → ℕ
+need [] = 0
+need (seal ∷ seals) = max (needs seal) (need seals)
+
+-- the bytes with the length and the checksums that make them what their signature says
+abbrev pub repaired : List ℕ → List ℕ
+repaired bytes = set_seals (seals_as (kind_of bytes) bytes) bytes
