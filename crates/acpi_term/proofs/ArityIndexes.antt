@@ -1,5 +1,6 @@
 -- An index of a list, after a number is added to both.
-use Rattle.std.proofs.Common.{◌≡◌, ℕ, true, false, cond, List, [], ◌∷◌, ◌++◌, Option, Some, None, is_some, refl, sym, ap, ◌∙◌, arith, Ordering, Less, Equal, Greater, nat_cmp, is_eq, ◌≢◌, true≢false, unwrap_or, subst}
+use Rattle.std.proofs.Common.{◌≡◌, ℕ, true, false, cond, List, [], ◌∷◌, ◌++◌, Option, Some, None, is_some, refl, sym, ap, ◌∙◌, arith, Ordering, Less, Equal, Greater, nat_cmp, is_eq, ◌≢◌, true≢false, unwrap_or, subst, Bool}
+use Rattle.std.specs.Prelude.{not}
 use Rattle.std.proofs.lemmas.Map.Lookups.{exact_bytes}
 use Rattle.std.proofs.lemmas.Map.Text.{is_eq-slice_cmp}
 use Rattle.std.proofs.lemmas.Slice.Eq.{bytes_eq-Decides}
@@ -66,6 +67,16 @@ symmetric [] [] = refl
 symmetric [] (y ∷ b) = refl
 symmetric (x ∷ a) [] = refl
 symmetric (x ∷ a) (y ∷ b) = grind (arith, symmetric a b)
+
+-- ---- whether a name was found, from whether it is the first
+
+pub is_there : (b : Bool) → false ≡ not b → b ≡ true
+is_there true e = refl
+is_there false e = absurd (true≢false (sym e))
+
+pub is_further : (b : Bool) → true ≡ not b → b ≡ false
+is_further true e = absurd (true≢false e)
+is_further false e = refl
 
 -- ---- maps whose keys have bytes
 

@@ -1,6 +1,6 @@
 //! The numbers of a list of names, found by name.
 
-ghost use Rattle.std.specs.Prelude.{◌≡◌, OnOk, IfOk};
+ghost use Rattle.std.specs.Prelude.{◌≡◌, OnOk, IfOk, not, is_some};
 ghost use Rattle.acpi_term.specs.ArityIndex.{found, Indexes, Adds};
 
 use crate::name_string::NameString;
@@ -23,7 +23,7 @@ impl ArityIndex {
             numbers: BTreeMap::new(alloc),
         };
         'counts: for (name, count) in counts {
-            index.add(alloc, name.as_bytes(), *count)?;
+            let _ = index.add(alloc, name.as_bytes(), *count)?;
         }
         Ok(index)
     }
@@ -35,15 +35,16 @@ impl ArityIndex {
         self.numbers.get(name).copied()
     }
 
-    /// Adds the number of a name after those of a list.
-    pub fn add(&mut self, alloc: Global, name: &[u8], count: u8) -> Result<(), AllocError>
-        ensures { OnOk result (Adds self.old self.new (name.now, count)) }
+    /// Adds the number of a name after those of a list, and returns whether it is the name's first.
+    pub fn add(&mut self, alloc: Global, name: &[u8], count: u8) -> Result<bool, AllocError>
+        ensures added { OnOk result (Adds self.old self.new (name.now, count)) }
+        ensures first { IfOk result (λ is_first. is_first ≡ not (is_some (found self.old name.now))) }
     {
         if self.find(name).is_some() {
-            return Ok(());
+            return Ok(false);
         }
         let key = Vec::from_slice(alloc, name)?;
         self.numbers.insert(key, count)?;
-        Ok(())
+        Ok(true)
     }
 }

@@ -323,11 +323,9 @@ fn push_new(
     ensures added { OnOk result (counts.new.items ≡ with_new counts.old.items (name, count)) }
     ensures indexed { OnOk result (Indexes index.new counts.new.items) }
 {
-    if index.find(name.as_bytes()).is_some() {
-        return Ok(());
+    if index.add(*counts.allocator(), name.as_bytes(), count)? {
+        counts.push((name, count))?;
     }
-    index.add(*counts.allocator(), name.as_bytes(), count)?;
-    counts.push((name, count))?;
     Ok(())
 }
 

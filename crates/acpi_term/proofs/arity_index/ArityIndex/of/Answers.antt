@@ -11,4 +11,4 @@ next all i a name below at named =
 pub counts-preserved : goal.counts-preserved
 counts-preserved c = λ name.
     let more = next c.args.counts.now c.counts.name-index c.counts-item.result c.as_bytes.result.now c.counts-test.true c.counts-item.is c.as_bytes.ensures.bytes in
-    c.in_ok-add.ensures (take c.counts.name-index c.args.counts.now) c.counts.invariant name ∙ ap (λ all. number_of all name) (sym more)
+    c.in_ok-add.ensures.added (take c.counts.name-index c.args.counts.now) c.counts.invariant name ∙ ap (λ all. number_of all name) (sym more)
