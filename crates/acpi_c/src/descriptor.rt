@@ -7,8 +7,7 @@ ghost use Rattle.acpi_c_calls.specs.Resource.{bus_numbers, io_range, memory_rang
 ghost use Rattle.acpi_c_calls.specs.Writer.{Writes, adds, adds_bytes, piece_of};
 
 use acpi_c_calls::resource::{
-    bus_numbers, bus_numbers32, bus_numbers64, interrupt, io, io_range, io_range32, io_range64,
-    memory_range16, memory_range32, memory_range64, memory32_fixed, register,
+    bus_numbers, interrupt, io, io_range, memory_range, memory32_fixed, register,
 };
 use acpi_c_calls::state::State;
 
@@ -106,7 +105,7 @@ pub extern "C" fn hyssop_export_io_range32(
     ensures { Writes (adds (piece_of (dword_space
         (io_range min max translation)))) bytes.old state.old bytes.new state.new result }
 {
-    io_range32(bytes, state, min, max, translation)
+    io_range(bytes, state, min, max, translation)
 }
 
 /// Writes a range of memory below 2^32.
@@ -123,7 +122,7 @@ pub extern "C" fn hyssop_export_memory_range32(
     ensures { Writes (adds (memory_piece memory_type (λ cacheable. dword_space
         (memory_range cacheable read_write min max translation)))) bytes.old state.old bytes.new state.new result }
 {
-    memory_range32(bytes, state, memory_type, read_write, min, max, translation)
+    memory_range(bytes, state, memory_type, read_write, min, max, translation)
 }
 
 /// Writes a range of memory with addresses of 64 bits, as hyssop_memory_range32 does.
@@ -140,7 +139,7 @@ pub extern "C" fn hyssop_export_memory_range64(
     ensures { Writes (adds (memory_piece memory_type (λ cacheable. qword_space
         (memory_range cacheable read_write min max translation)))) bytes.old state.old bytes.new state.new result }
 {
-    memory_range64(bytes, state, memory_type, read_write, min, max, translation)
+    memory_range(bytes, state, memory_type, read_write, min, max, translation)
 }
 
 /// Writes a range of memory with addresses of 16 bits, as hyssop_memory_range32 does.
@@ -157,7 +156,7 @@ pub extern "C" fn hyssop_export_memory_range16(
     ensures { Writes (adds (memory_piece memory_type (λ cacheable. word_space
         (memory_range cacheable read_write min max translation)))) bytes.old state.old bytes.new state.new result }
 {
-    memory_range16(bytes, state, memory_type, read_write, min, max, translation)
+    memory_range(bytes, state, memory_type, read_write, min, max, translation)
 }
 
 /// Writes a range of ports with 64 bits.
@@ -172,7 +171,7 @@ pub extern "C" fn hyssop_export_io_range64(
     ensures { Writes (adds (piece_of (qword_space
         (io_range min max translation)))) bytes.old state.old bytes.new state.new result }
 {
-    io_range64(bytes, state, min, max, translation)
+    io_range(bytes, state, min, max, translation)
 }
 
 /// Writes a range of bus numbers of 32 bits.
@@ -185,7 +184,7 @@ pub extern "C" fn hyssop_export_bus_numbers32(
 ) -> u32
     ensures { Writes (adds (piece_of (dword_space (bus_numbers min max)))) bytes.old state.old bytes.new state.new result }
 {
-    bus_numbers32(bytes, state, min, max)
+    bus_numbers(bytes, state, min, max)
 }
 
 /// Writes a range of bus numbers of 64 bits.
@@ -198,7 +197,7 @@ pub extern "C" fn hyssop_export_bus_numbers64(
 ) -> u32
     ensures { Writes (adds (piece_of (qword_space (bus_numbers min max)))) bytes.old state.old bytes.new state.new result }
 {
-    bus_numbers64(bytes, state, min, max)
+    bus_numbers(bytes, state, min, max)
 }
 
 /// Writes a register.

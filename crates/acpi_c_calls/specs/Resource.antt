@@ -11,13 +11,13 @@ use Rattle.acpi_c_calls.specs.Writer.{piece_of}
 use Rattle.acpi_c_calls.specs.declared.fault.Fault.{Fault}
 use Rattle.acpi_c_calls.specs.declared.fault.Fault.TheVariants.{UnknownChoice}
 
-abbrev pub bus_numbers : ℕ → ℕ → AddressSpace ℕ
+abbrev pub bus_numbers : {T : Type 0} → T → T → AddressSpace T
 bus_numbers min max = fixed_range 2 0 min max None
 
-abbrev pub io_range : ℕ → ℕ → ℕ → AddressSpace ℕ
+abbrev pub io_range : {T : Type 0} → T → T → T → AddressSpace T
 io_range min max translation = fixed_range 1 3 min max (Some translation)
 
-abbrev pub memory_range : AddressSpaceCacheable → Bool → ℕ → ℕ → ℕ → AddressSpace ℕ
+abbrev pub memory_range : {T : Type 0} → AddressSpaceCacheable → Bool → T → T → T → AddressSpace T
 memory_range cached read_write min max translation =
     fixed_range 0 (2 * cacheable_number cached + bit read_write 1) min max (Some translation)
 

@@ -1,7 +1,7 @@
 //! Resource descriptors (ACPI 6.5, 6.4).
 
 ghost use Rattle.std.specs.Prelude.{◌≡◌};
-ghost use Rattle.acpi_ops.specs.AddressSpace.{word_space, dword_space, qword_space};
+ghost use Rattle.acpi_ops.specs.AddressSpace.{space};
 ghost use Rattle.acpi_ops.specs.Descriptor.{port_bytes, fixed_bytes, interrupt_bytes, interrupt_flags};
 ghost use Rattle.acpi_c_calls.specs.Resource.{bus_numbers, io_range, memory_range, memory_type, memory_piece, register_piece};
 ghost use Rattle.acpi_c_calls.specs.Writer.{Writes, adds, adds_bytes, piece_of};
@@ -9,7 +9,7 @@ ghost use Rattle.acpi_c_calls.specs.Writer.{Writes, adds, adds_bytes, piece_of};
 use crate::fault::Fault;
 use crate::put::{fail, put, put_object};
 use crate::state::State;
-use acpi_ops::address_space::{AddressSpace, AddressSpaceCacheable};
+use acpi_ops::address_space::{Address, AddressSpace, AddressSpaceCacheable};
 use acpi_ops::descriptor::{IO, Interrupt, Memory32Fixed};
 
 /// Writes a range of ports with 16-bit decoding (ACPI 6.5, 6.4.2.5): its least and its greatest base, the alignment of the base,
@@ -88,45 +88,31 @@ pub fn register(
     )
 }
 
-/// Writes a range of bus numbers, from its first to its last (ACPI 6.5, 6.4.3.5.3). The fault is `AddressRange` if its end is
-/// before its start, or if it has all numbers of 16 bits.
+/// Writes a range of bus numbers, from its first to its last (ACPI 6.5, 6.4.3.5.1 to 6.4.3.5.3). The fault is `AddressRange` if
+/// its end is before its start, or if it has all numbers of its type.
 #[tactic(auto, using(crate::proofs::Pieces::space_few, crate::proofs::Pieces::space_dry))]
-pub fn bus_numbers(bytes: &mut [u8], state: &mut State, min: u16, max: u16) -> u32
-    ensures { Writes (adds (piece_of (word_space (bus_numbers min max)))) bytes.old state.old bytes.new state.new result }
+pub fn bus_numbers<T: Address>(bytes: &mut [u8], state: &mut State, min: T, max: T) -> u32
+    ensures { Writes (adds (piece_of (space T.number T.TAG T.WIDTH (bus_numbers min max))))
+        bytes.old state.old bytes.new state.new result }
 {
     if state.fault != 0 {
         return state.fault;
     }
-    put_object(bytes, state, &AddressSpace::<u16>::new_bus_number(min, max))
-}
-
-/// Writes a range of bus numbers of 32 bits, as `bus_numbers` does (ACPI 6.5, 6.4.3.5.2).
-#[tactic(auto, using(crate::proofs::Pieces::space_few, crate::proofs::Pieces::space_dry))]
-pub fn bus_numbers32(bytes: &mut [u8], state: &mut State, min: u32, max: u32) -> u32
-    ensures { Writes (adds (piece_of (dword_space (bus_numbers min max)))) bytes.old state.old bytes.new state.new result }
-{
-    if state.fault != 0 {
-        return state.fault;
-    }
-    put_object(bytes, state, &AddressSpace::<u32>::new_bus_number(min, max))
-}
-
-/// Writes a range of bus numbers of 64 bits, as `bus_numbers` does (ACPI 6.5, 6.4.3.5.1).
-#[tactic(auto, using(crate::proofs::Pieces::space_few, crate::proofs::Pieces::space_dry))]
-pub fn bus_numbers64(bytes: &mut [u8], state: &mut State, min: u64, max: u64) -> u32
-    ensures { Writes (adds (piece_of (qword_space (bus_numbers min max)))) bytes.old state.old bytes.new state.new result }
-{
-    if state.fault != 0 {
-        return state.fault;
-    }
-    put_object(bytes, state, &AddressSpace::<u64>::new_bus_number(min, max))
+    put_object(bytes, state, &AddressSpace::new_bus_number(min, max))
 }
 
 /// Writes a range of ports, from its first to its last, and what is added to a port to get the one on the other side of a bridge
-/// (ACPI 6.5, 6.4.3.5.3). The fault is `AddressRange` if its end is before its start, or if it has all ports of 16 bits.
+/// (ACPI 6.5, 6.4.3.5.1 to 6.4.3.5.3). Ports of a bridge that are in memory may have a translation of 32 or 64 bits. The fault is
+/// `AddressRange` if its end is before its start, or if it has all ports of its type.
 #[tactic(auto, using(crate::proofs::Pieces::space_few, crate::proofs::Pieces::space_dry))]
-pub fn io_range(bytes: &mut [u8], state: &mut State, min: u16, max: u16, translation: u16) -> u32
-    ensures { Writes (adds (piece_of (word_space (io_range min max translation))))
+pub fn io_range<T: Address>(
+    bytes: &mut [u8],
+    state: &mut State,
+    min: T,
+    max: T,
+    translation: T,
+) -> u32
+    ensures { Writes (adds (piece_of (space T.number T.TAG T.WIDTH (io_range min max translation))))
         bytes.old state.old bytes.new state.new result }
 {
     if state.fault != 0 {
@@ -135,40 +121,7 @@ pub fn io_range(bytes: &mut [u8], state: &mut State, min: u16, max: u16, transla
     put_object(
         bytes,
         state,
-        &AddressSpace::<u16>::new_io(min, max, Some(translation)),
-    )
-}
-
-/// Writes a range of ports with 32 bits, as `io_range` does (ACPI 6.5, 6.4.3.5.2): ports of a bridge that are in memory may have
-/// a translation of 32 bits.
-#[tactic(auto, using(crate::proofs::Pieces::space_few, crate::proofs::Pieces::space_dry))]
-pub fn io_range32(bytes: &mut [u8], state: &mut State, min: u32, max: u32, translation: u32) -> u32
-    ensures { Writes (adds (piece_of (dword_space (io_range min max translation))))
-        bytes.old state.old bytes.new state.new result }
-{
-    if state.fault != 0 {
-        return state.fault;
-    }
-    put_object(
-        bytes,
-        state,
-        &AddressSpace::<u32>::new_io(min, max, Some(translation)),
-    )
-}
-
-/// Writes a range of ports with 64 bits, as `io_range` does (ACPI 6.5, 6.4.3.5.1).
-#[tactic(auto, using(crate::proofs::Pieces::space_few, crate::proofs::Pieces::space_dry))]
-pub fn io_range64(bytes: &mut [u8], state: &mut State, min: u64, max: u64, translation: u64) -> u32
-    ensures { Writes (adds (piece_of (qword_space (io_range min max translation))))
-        bytes.old state.old bytes.new state.new result }
-{
-    if state.fault != 0 {
-        return state.fault;
-    }
-    put_object(
-        bytes,
-        state,
-        &AddressSpace::<u64>::new_io(min, max, Some(translation)),
+        &AddressSpace::new_io(min, max, Some(translation)),
     )
 }
 
@@ -185,21 +138,21 @@ fn memory_type(number: u32) -> Option<AddressSpaceCacheable>
     }
 }
 
-/// Writes a range of memory with addresses of 32 bits, from its first to its last, and what is added to an address to get the one
-/// on the other side of a bridge (ACPI 6.5, 6.4.3.5.2). `memory_type` is from 0 to 3: not cacheable, cacheable, write combining,
-/// prefetchable. The fault is `UnknownChoice` for another one, and `AddressRange` if the end is before the start, or if the range
-/// has all addresses of 32 bits.
+/// Writes a range of memory, from its first address to its last, and what is added to an address to get the one on the other side
+/// of a bridge (ACPI 6.5, 6.4.3.5.1 to 6.4.3.5.3). `cached` is the memory type, from 0 to 3: not cacheable, cacheable, write
+/// combining, prefetchable. The fault is `UnknownChoice` for another one, and `AddressRange` if the end is before the start, or
+/// if the range has all addresses of its type.
 #[tactic(auto, using(crate::proofs::Pieces::space_few, crate::proofs::Pieces::space_dry))]
-pub fn memory_range32(
+pub fn memory_range<T: Address>(
     bytes: &mut [u8],
     state: &mut State,
     cached: u32,
     read_write: bool,
-    min: u32,
-    max: u32,
-    translation: u32,
+    min: T,
+    max: T,
+    translation: T,
 ) -> u32
-    ensures { Writes (adds (memory_piece cached (λ cacheable. dword_space
+    ensures { Writes (adds (memory_piece cached (λ cacheable. space T.number T.TAG T.WIDTH
         (memory_range cacheable read_write min max translation))))
         bytes.old state.old bytes.new state.new result }
 {
@@ -208,79 +161,7 @@ pub fn memory_range32(
     }
     match memory_type(cached) {
         Some(cached) => {
-            let range = AddressSpace::<u32>::new_memory(
-                cached,
-                read_write,
-                min,
-                max,
-                Some(translation),
-            );
-            put_object(bytes, state, &range)
-        }
-        None => fail(bytes, state, Fault::UnknownChoice),
-    }
-}
-
-/// Writes a range of memory with addresses of 64 bits (ACPI 6.5, 6.4.3.5.1). All else is as for `memory_range32`.
-#[tactic(auto, using(crate::proofs::Pieces::space_few, crate::proofs::Pieces::space_dry))]
-pub fn memory_range64(
-    bytes: &mut [u8],
-    state: &mut State,
-    cached: u32,
-    read_write: bool,
-    min: u64,
-    max: u64,
-    translation: u64,
-) -> u32
-    ensures { Writes (adds (memory_piece cached (λ cacheable. qword_space
-        (memory_range cacheable read_write min max translation))))
-        bytes.old state.old bytes.new state.new result }
-{
-    if state.fault != 0 {
-        return state.fault;
-    }
-    match memory_type(cached) {
-        Some(cached) => {
-            let range = AddressSpace::<u64>::new_memory(
-                cached,
-                read_write,
-                min,
-                max,
-                Some(translation),
-            );
-            put_object(bytes, state, &range)
-        }
-        None => fail(bytes, state, Fault::UnknownChoice),
-    }
-}
-
-/// Writes a range of memory with addresses of 16 bits (ACPI 6.5, 6.4.3.5.3). All else is as for `memory_range32`.
-#[tactic(auto, using(crate::proofs::Pieces::space_few, crate::proofs::Pieces::space_dry))]
-pub fn memory_range16(
-    bytes: &mut [u8],
-    state: &mut State,
-    cached: u32,
-    read_write: bool,
-    min: u16,
-    max: u16,
-    translation: u16,
-) -> u32
-    ensures { Writes (adds (memory_piece cached (λ cacheable. word_space
-        (memory_range cacheable read_write min max translation))))
-        bytes.old state.old bytes.new state.new result }
-{
-    if state.fault != 0 {
-        return state.fault;
-    }
-    match memory_type(cached) {
-        Some(cached) => {
-            let range = AddressSpace::<u16>::new_memory(
-                cached,
-                read_write,
-                min,
-                max,
-                Some(translation),
-            );
+            let range = AddressSpace::new_memory(cached, read_write, min, max, Some(translation));
             put_object(bytes, state, &range)
         }
         None => fail(bytes, state, Fault::UnknownChoice),

@@ -1,6 +1,7 @@
 //! Address spaces: ranges of memory, of ports and of bus numbers.
 
-ghost use Rattle.std.specs.Prelude.{◌≡◌, ℕ, ◌+◌, ◌*◌, ◌^◌, ◌<◌, length, true, refl, OnOk, IfOk, IfErr, None, Some};
+ghost use Rattle.std.specs.Prelude.{◌≡◌, ℕ, ◌+◌, ◌*◌, ◌^◌, ◌<◌, ◌≤◌, length, true, refl, OnOk, IfOk, IfErr, None, Some};
+ghost use native.Mathlib.Omega.{arith};
 ghost use Rattle.acpi_base.specs.Bytes.{le};
 ghost use Rattle.acpi_base.specs.Record.{field_bytes, fields_bytes};
 ghost use Rattle.acpi_base.specs.Object.{Builds};
@@ -63,6 +64,8 @@ pub trait Address: Copy {
     ghost length_is: { LENGTH ≡ 3 + 5 * WIDTH };
 
     ghost last_is: { LAST + 1 ≡ 2 ^ (8 * WIDTH) };
+
+    ghost narrow: { WIDTH ≤ 8 };
 }
 
 /// Addresses of a Word Address Space Descriptor.
@@ -86,6 +89,8 @@ impl Address for u16 {
     ghost length_is = { refl };
 
     ghost last_is = { refl };
+
+    ghost narrow = { Prim.omega arith };
 
     fn number(self) -> u64 {
         u64::from(self)
@@ -126,6 +131,8 @@ impl Address for u32 {
 
     ghost last_is = { refl };
 
+    ghost narrow = { Prim.omega arith };
+
     fn number(self) -> u64 {
         u64::from(self)
     }
@@ -164,6 +171,8 @@ impl Address for u64 {
     ghost length_is = { refl };
 
     ghost last_is = { refl };
+
+    ghost narrow = { Prim.omega arith };
 
     fn number(self) -> u64 {
         self
