@@ -19,7 +19,7 @@ FIELDS = "docs/FIELDS.md"
 BEGIN, END = "<!-- rules: tools/rules.py makes these lines -->\n", "<!-- end of rules -->\n"
 BEGIN_SEVERAL = "<!-- rules on several tables: tools/rules.py makes these lines -->\n"
 END_SEVERAL = "<!-- end of rules on several tables -->\n"
-NAMES = {"Differs": "unique", "Apart": "overlap", "Disjoint": "overlap", "AtMost": "at-most", "Addresses": "no-overflow"}
+NAMES = {"Differs": "unique", "Apart": "overlap", "Disjoint": "disjoint", "AtMost": "at-most", "Addresses": "no-overflow"}
 NAMES.update({"Counts": "count", "Agrees": "pair", "Needed": "required", "Needs": "needs", "Between": "range", "Multiple": "multiple"})
 NAMES.update({"Points": "reference", "Refers": "reference", "Ends": "cycle", "Distances": "distance"})
 

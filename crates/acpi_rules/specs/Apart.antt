@@ -1,4 +1,4 @@
--- The rules on two parts of a table that have something in common: `unique`, and `overlap`.
+-- The rules on two parts of a table that have something in common: `unique`, `overlap` and `disjoint`.
 use Rattle.std.specs.Prelude.{ℕ, ◌+◌, nat_le, nat_lt, ◌&&◌, Bool, false, if◌then◌else◌, List, [], ◌∷◌, ◌++◌, Option, Some, None}
 use Rattle.std.specs.Str.{bytes_eq}
 use Rattle.acpi_rules.specs.Demand.{Spot, Demand, differs, apart, disjoint}

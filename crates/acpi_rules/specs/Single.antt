@@ -65,9 +65,9 @@ copied = only "PSDT" "ACPI 6.5, 5.2.11.3" ∷ only "SSDT" "ACPI 6.5, 5.2.11.2" �
 -- ---- how many tables there are
 
 -- how many tables have a signature
-abbrev pub signed : List (List ℕ) → List ℕ → ℕ
-signed [] signature = 0
-signed (table ∷ tables) signature = (if bytes_eq (take 4 table) signature then 1 else 0) + signed tables signature
+abbrev pub namesakes : List (List ℕ) → List ℕ → ℕ
+namesakes [] signature = 0
+namesakes (table ∷ tables) signature = (if bytes_eq (take 4 table) signature then 1 else 0) + namesakes tables signature
 
 -- how many tables have these bytes
 abbrev pub copies : List (List ℕ) → List ℕ → ℕ
@@ -87,7 +87,7 @@ several_findings rule section n table = if nat_le n 1 then [] else relates rule 
 -- A machine has one table of a signature.
 abbrev pub single_findings : List (List ℕ) → List ℕ → Once → List Finding
 single_findings tables table row =
-    if bytes_eq row.table (take 4 table) then several_findings Single row.section (signed tables row.table) table else []
+    if bytes_eq row.table (take 4 table) then several_findings Single row.section (namesakes tables row.table) table else []
 
 -- A machine has each table of a signature once.
 abbrev pub copy_findings : List (List ℕ) → List ℕ → Once → List Finding

@@ -3,7 +3,7 @@
 ghost use Rattle.std.specs.Prelude.{◌≡◌, ◌++◌, map, OnOk};
 ghost use Rattle.acpi_rules.specs.Field.{seen};
 ghost use Rattle.acpi_rules.specs.Finding.{noted};
-ghost use Rattle.acpi_rules.specs.Single.{once_by, signed, copies, signature_field, several_findings, single_findings};
+ghost use Rattle.acpi_rules.specs.Single.{once_by, namesakes, copies, signature_field, several_findings, single_findings};
 ghost use Rattle.acpi_rules.specs.Single.{copy_findings, singles, copied, singles_findings, copies_findings};
 
 use crate::field::Field;
@@ -78,8 +78,8 @@ const COPIED: [Once; 2] = [
 // ---- how many tables there are
 
 // Returns how many tables have a signature.
-fn signed(tables: &[&[u8]], signature: &[u8]) -> usize
-    ensures { result ≡ signed (map (λ table. table.now) tables.now) signature.now }
+fn namesakes(tables: &[&[u8]], signature: &[u8]) -> usize
+    ensures { result ≡ namesakes (map (λ table. table.now) tables.now) signature.now }
 {
     let mut number = 0;
     'tables: for table in tables {
@@ -156,7 +156,7 @@ fn check_single<'a>(
         return check_several(
             Rule::Single,
             row.section,
-            signed(tables, signature),
+            namesakes(tables, signature),
             table,
             findings,
         );
