@@ -21,7 +21,7 @@ BEGIN_SEVERAL = "<!-- rules on several tables: tools/rules.py makes these lines 
 END_SEVERAL = "<!-- end of rules on several tables -->\n"
 NAMES = {"Differs": "unique", "Apart": "overlap", "Disjoint": "disjoint", "AtMost": "at-most", "Addresses": "no-overflow"}
 NAMES.update({"Counts": "count", "Agrees": "pair", "Needed": "required", "Needs": "needs", "Between": "range", "Multiple": "multiple"})
-NAMES.update({"Points": "reference", "Refers": "reference", "Ends": "cycle", "Distances": "distance"})
+NAMES.update({"Points": "reference", "Refers": "reference", "Ends": "cycle", "Distances": "distance", "Includes": "present"})
 
 
 def stop(why):
@@ -108,8 +108,15 @@ def types(numbers):
     return f"type {', '.join(numbers[:-1])} or {numbers[-1]}" if len(numbers) > 1 else f"type {numbers[0]}"
 
 
-def demand(text):
-    """Returns what a rule demands of its field."""
+def parts(text):
+    """Returns the lists of parts that have names: (name, list of parts)."""
+    for name, body in re.findall(r"^const (\w+): \[Among; \d+\] = \[\n(.*?)^\];$", text, re.MULTILINE | re.DOTALL):
+        rows = [call(it)[1] for it in split_outside(re.sub(r"\s+", " ", body))]
+        yield name, [where(of).rstrip(", ") + condition(when) for of, when in rows]
+
+
+def demand(text, named):
+    """Returns what a rule demands of its field, or of the table. Lists of parts have names."""
     kind, arguments = call(text)
     if kind == "Differs":
         return "differs in all of them"
@@ -141,15 +148,19 @@ def demand(text):
         return "structures of which each has the offset of the next one there come to an end"
     if kind == "Distances":
         return "is the number of localities: the distance from each to itself is 10, and each other one is at least 10"
+    if kind == "Includes":
+        what = arguments[1].strip('"')
+        return f"there is a {what}: one of {'; '.join(named[arguments[0].strip('&')])}"
     stop(f"{SOURCE} has a demand that isn't known: {kind}")
 
 
 def relations(text):
     """Returns the rules on several fields: (table, rule, field, what is allowed, section), and where each field stands."""
+    named = dict(parts(text))
     for body in re.findall(r"^    rule!\((.*(?:\n        .*)*)\),$", text, re.MULTILINE):
         table, of, when, field, wanted, section = split_outside(re.sub(r"\s+", " ", body))
         offset, width, name = spot(field)
-        yield (table.strip('"'), NAMES[call(wanted)[0]], f"{where(of)}{offset} {name}{condition(when)}", demand(wanted),
+        yield (table.strip('"'), NAMES[call(wanted)[0]], f"{where(of)}{offset} {name}{condition(when)}", demand(wanted, named),
                section.strip('"')), (of, offset, width, name)
 
 

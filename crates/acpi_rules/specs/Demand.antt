@@ -32,7 +32,8 @@ spot_by s = record { offset = s.offset; width = s.width; name = s.name.now }
 -- - points: it is zero, or the offset of a structure of one of these types;
 -- - refers: it is zero, or the number in this field of a structure of this type;
 -- - ends: parts of which each has the offset of the next one there come to an end;
--- - distances: it is the number of localities, whose distances begin in this field (ACPI 6.5, 5.2.17).
+-- - distances: it is the number of localities, whose distances begin in this field (ACPI 6.5, 5.2.17);
+-- - includes: the table has a part that is one of these, and the text says what they are.
 pub data Demand : Type 0 where
   differs : Demand
   apart : Spot → Spot → Demand
@@ -49,6 +50,7 @@ pub data Demand : Type 0 where
   refers : ℕ → Spot → Demand
   ends : Demand
   distances : Spot → Demand
+  includes : List Among → List ℕ → Demand
 
 abbrev pub demand_by : DemandData → Demand
 demand_by demands.Differs = differs
@@ -66,6 +68,7 @@ demand_by (demands.Points types) = points types.now
 demand_by (demands.Refers kind spot) = refers kind (spot_by spot)
 demand_by demands.Ends = ends
 demand_by (demands.Distances first) = distances (spot_by first)
+demand_by (demands.Includes parts what) = includes parts.now what.now
 
 -- In tables of this signature, the field at a spot of each of these parts is as demanded by a section.
 pub record Relation : Type 0 where

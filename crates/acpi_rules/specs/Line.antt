@@ -11,7 +11,7 @@ use Rattle.acpi_rules.specs.declared.finding.Rule.{Rule}
 use Rattle.acpi_rules.specs.declared.finding.Rule.TheVariants.{ReservedBytes, ReservedBits, ReservedValue, StructureLength, Range}
 use Rattle.acpi_rules.specs.declared.finding.Rule.TheVariants.{Unique, Overlap, Disjoint, AtMost, NoOverflow, Count, Pair}
 use Rattle.acpi_rules.specs.declared.finding.Rule.TheVariants.{Required, Needs, Multiple, Reference, Cycle, Distance}
-use Rattle.acpi_rules.specs.declared.finding.Rule.TheVariants.{Defined, Below, Single, Copy}
+use Rattle.acpi_rules.specs.declared.finding.Rule.TheVariants.{Present, Defined, Below, Single, Copy}
 
 -- the tables that ACPI 6.5 defines; another standard defines each other table
 abbrev pub standard_tables : List (List ℕ)
@@ -52,6 +52,7 @@ rule_name Multiple = codes "multiple"
 rule_name Reference = codes "reference"
 rule_name Cycle = codes "cycle"
 rule_name Distance = codes "distance"
+rule_name Present = codes "present"
 rule_name Defined = codes "defined"
 rule_name Below = codes "below"
 rule_name Single = codes "single"
@@ -115,6 +116,7 @@ relates_text Count number most other = codes " in " ++ decimal most ++ codes " b
 relates_text Multiple number most other = codes " isn't n * " ++ decimal number
 relates_text Reference number most other = codes " isn't the " ++ label other ++ codes " of such a structure"
 relates_text Cycle number most other = codes " leads to a circle"
+relates_text Present number most other = codes ": there is no " ++ label other
 relates_text Defined number most other = codes " isn't any " ++ label other
 relates_text Below number most other = own_text most ++ limit_text number other
 relates_text Single number most other = tables_text number (codes " of them")

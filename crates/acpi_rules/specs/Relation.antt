@@ -5,14 +5,14 @@ use Rattle.std.specs.Str.{bytes_eq}
 use Rattle.acpi_base.specs.declared.walk.Walk.{Walk}
 use Rattle.acpi_rules.specs.Apart.{apart_findings}
 use Rattle.acpi_rules.specs.Chain.{chain_findings}
-use Rattle.acpi_rules.specs.Demand.{Demand, Relation, differs, apart, disjoint, points, refers, ends, distances}
+use Rattle.acpi_rules.specs.Demand.{Demand, Relation, differs, apart, disjoint, points, refers, ends, distances, includes}
 use Rattle.acpi_rules.specs.Finding.{Finding}
 use Rattle.acpi_rules.specs.Item.{Item, items}
 use Rattle.acpi_rules.specs.Matrix.{matrix_findings}
 use Rattle.acpi_rules.specs.Order.{number_findings}
-use Rattle.acpi_rules.specs.Reference.{targets, target_name, reference_findings}
+use Rattle.acpi_rules.specs.Reference.{targets, target_name, reference_findings, present_findings}
 
--- what parts of a table break of a demand on their field at an offset, where these numbers are allowed besides zero
+-- what parts of a table break of a demand on their field at an offset, where these are the numbers that are its targets
 abbrev pub demand_findings : Demand → ℕ → List ℕ → List ℕ → List Item → List Finding
 demand_findings differs at section numbers parts = apart_findings differs section [] parts
 demand_findings (apart group last) at section numbers parts = apart_findings (apart group last) section [] parts
@@ -23,6 +23,7 @@ demand_findings (refers kind spot) at section numbers parts =
     flat_map (reference_findings section (target_name (refers kind spot)) numbers) parts
 demand_findings ends at section numbers parts = chain_findings at section parts
 demand_findings (distances first) at section numbers parts = flat_map (matrix_findings section first) parts
+demand_findings (includes these what) at section numbers parts = flat_map (present_findings section what numbers) parts
 demand_findings demand at section numbers parts = flat_map (number_findings demand section) parts
 
 -- what a table breaks of a rule, in the order of its fields

@@ -5,12 +5,13 @@ use Rattle.acpi_base.specs.declared.walk.Place.TheVariants.{Nowhere, Byte, Word,
 use Rattle.acpi_base.specs.declared.walk.Walk.{Walk}
 use Rattle.acpi_text.specs.declared.form.Count.TheVariants.{Field}
 use Rattle.acpi_text.specs.declared.form.TableForm.{TableForm}
+use Rattle.acpi_rules.specs.declared.demand.Among.{Among}
 use Rattle.acpi_rules.specs.declared.demand.Of.{Of}
 use Rattle.acpi_rules.specs.declared.demand.Of.TheVariants.{Whole, Each, Kind, Entries}
 use Rattle.acpi_rules.specs.declared.demand.When.{When}
 use Rattle.acpi_rules.specs.declared.demand.When.TheVariants.{Always, Is, Not}
 use Rattle.acpi_rules.specs.Demand.{Spot, Demand, Relation, differs, apart, disjoint, at_most, addresses, counts, agrees, needed}
-use Rattle.acpi_rules.specs.Demand.{needs, between, multiple, points, refers, ends, distances}
+use Rattle.acpi_rules.specs.Demand.{needs, between, multiple, points, refers, ends, distances, includes}
 use Rattle.acpi_rules.specs.Field.{table_fields}
 use Rattle.acpi_rules.specs.Finding.{Finding}
 use Rattle.acpi_rules.specs.Relation.{relations_findings}
@@ -377,6 +378,24 @@ referred =
     (refers 4 (spot 4 2 "NVDIMM Control Region Structure Index")) "ACPI 6.5, 5.2.26.7"
     ∷ []
 
+-- Processors that are enabled, or that can be brought online (ACPI 6.5, 5.2.12).
+abbrev pub processors : List Among
+processors =
+    record { of = Kind 0; when = Not (DWord 4) 3 0 }
+    ∷ record { of = Kind 7; when = Not (DWord 8) 3 0 }
+    ∷ record { of = Kind 9; when = Not (DWord 8) 3 0 }
+    ∷ record { of = Kind 11; when = Not (DWord 12) 9 0 }
+    ∷ record { of = Kind 17; when = Is (DWord 11) 1 1 }
+    ∷ record { of = Kind 24; when = Not (DWord 4) 3 0 }
+    ∷ []
+
+-- Structures without which a table is of no use.
+unfoldable pub included : List Relation
+included =
+    rule "APIC" Whole Always (spot 0 4 "Signature") (includes processors (codes "processor that is enabled or online capable"))
+    "ACPI 6.5, 5.2.12"
+    ∷ []
+
 -- ---- all rules
 
 -- the rules on several fields that a table breaks, in the order of the rules
@@ -390,6 +409,7 @@ standard_findings walk bytes =
     ++ relations_findings aligned walk bytes
     ++ relations_findings bounded walk bytes
     ++ relations_findings referred walk bytes
+    ++ relations_findings included walk bytes
 
 -- The rules that a table breaks, by its form and its walk: those on each of its fields, in the order of their offsets, and then
 -- those on several fields, in the order of the rules.

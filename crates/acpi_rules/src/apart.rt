@@ -49,7 +49,8 @@ fn clash(demand: &Demand, a: &Item<'_>, b: &Item<'_>) -> bool
         | Demand::Points(_)
         | Demand::Refers(_, _)
         | Demand::Ends
-        | Demand::Distances(_) => false,
+        | Demand::Distances(_)
+        | Demand::Includes(_, _) => false,
     }
 }
 

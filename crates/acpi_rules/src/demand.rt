@@ -83,6 +83,8 @@ pub enum Demand {
     Ends,
     /// The field is the number of localities, whose distances begin at this one (ACPI 6.5, 5.2.17).
     Distances(Spot),
+    /// The table has a part that is one of these. The text says what they are.
+    Includes(&'static [Among], &'static str),
 }
 
 /// A rule on several fields of a table.

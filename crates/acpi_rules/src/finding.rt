@@ -40,6 +40,8 @@ pub enum Rule {
     Cycle,
     /// A distance is 10 from a locality to itself, and otherwise not below 10. The numbers are as those of a range.
     Distance,
+    /// A table has a part that it can't do without.
+    Present,
     /// A number is one of another table of the machine.
     Defined,
     /// A number is below one of another table of the machine. The number is that one, and the greatest number is the field's own.
@@ -68,6 +70,6 @@ pub struct Finding<'a> {
     /// The greatest number that is allowed, or 0 if the rule isn't on a range.
     pub most: u64,
     /// The other field of which the rule speaks, or nothing if it speaks of one alone. A field of another table is followed by
-    /// the signature.
+    /// the signature. Of a part that isn't there, it says what it is.
     pub other: &'static str,
 }

@@ -78,6 +78,7 @@ impl Rule {
             Rule::Reference => "reference",
             Rule::Cycle => "cycle",
             Rule::Distance => "distance",
+            Rule::Present => "present",
             Rule::Defined => "defined",
             Rule::Below => "below",
             Rule::Single => "single",
@@ -251,6 +252,10 @@ fn push_relates(
             text.push_str(" of such a structure")
         }
         Rule::Cycle => text.push_str(" leads to a circle"),
+        Rule::Present => {
+            text.push_str(": there is no ")?;
+            push_label(other, text)
+        }
         Rule::Defined => {
             text.push_str(" isn't any ")?;
             push_label(other, text)

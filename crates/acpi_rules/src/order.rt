@@ -254,7 +254,8 @@ fn check_numbers<'a>(
         | Demand::Points(_)
         | Demand::Refers(_, _)
         | Demand::Ends
-        | Demand::Distances(_) => Ok(()),
+        | Demand::Distances(_)
+        | Demand::Includes(_, _) => Ok(()),
     }
 }
 

@@ -1,11 +1,12 @@
-//! The rules on numbers that are those of other structures.
+//! The rules on numbers that are those of other structures, and on parts that a table has.
 
 ghost use Rattle.std.specs.Prelude.{◌≡◌, ◌++◌, map, IfOk, OnOk};
 ghost use Rattle.std.specs.List.{flat_map};
 ghost use Rattle.acpi_rules.specs.Demand.{spot_by, demand_by};
 ghost use Rattle.acpi_rules.specs.Finding.{noted};
 ghost use Rattle.acpi_rules.specs.Item.{item_by, items};
-ghost use Rattle.acpi_rules.specs.Reference.{of_kind, start_spot, starts, targets, target_name, contains, reference_findings};
+ghost use Rattle.acpi_rules.specs.Reference.{of_kind, start_spot, starts_among, starts, targets, target_name, contains};
+ghost use Rattle.acpi_rules.specs.Reference.{reference_findings, present_findings};
 ghost use Rattle.acpi_rules.specs.Rules.{number_of};
 
 use crate::demand::{Among, Demand, Of, Spot, When};
@@ -53,6 +54,36 @@ fn push_numbers(items: &[Item<'_>], numbers: &mut Vec<u64>) -> Result<(), AllocE
     Ok(())
 }
 
+// Adds the offsets of those parts of a table that are one of these.
+fn push_among(
+    alloc: Global,
+    walk: Option<Walk>,
+    table: &[u8],
+    among: &Among,
+    numbers: &mut Vec<u64>,
+) -> Result<(), AllocError>
+    ensures { OnOk result (numbers.new.items ≡ numbers.old.items ++ starts_among walk table.now among.now) }
+{
+    let items = items_of(alloc, among, &START, walk, table)?;
+    push_offsets(&items, numbers)
+}
+
+// Adds the offsets of those that are one of any of these.
+fn push_all_among(
+    alloc: Global,
+    walk: Option<Walk>,
+    table: &[u8],
+    parts: &[Among],
+    numbers: &mut Vec<u64>,
+) -> Result<(), AllocError>
+    ensures { OnOk result (numbers.new.items ≡ numbers.old.items ++ flat_map (starts_among walk table.now) parts.now) }
+{
+    'parts: for among in parts {
+        push_among(alloc, walk, table, among, numbers)?;
+    }
+    Ok(())
+}
+
 // Adds the offsets of the structures of a type.
 fn push_starts(
     alloc: Global,
@@ -63,8 +94,7 @@ fn push_starts(
 ) -> Result<(), AllocError>
     ensures { OnOk result (numbers.new.items ≡ numbers.old.items ++ starts walk table.now kind) }
 {
-    let items = items_of(alloc, &of_kind(kind), &START, walk, table)?;
-    push_offsets(&items, numbers)
+    push_among(alloc, walk, table, &of_kind(kind), numbers)
 }
 
 // Adds the offsets of the structures of types.
@@ -99,7 +129,7 @@ fn push_referred(
     push_numbers(&items, numbers)
 }
 
-/// Returns the numbers that a demand allows, besides zero.
+/// Returns the numbers that a demand allows, besides zero, or the offsets of the parts that it speaks of.
 pub fn targets_of(
     alloc: Global,
     demand: &Demand,
@@ -114,6 +144,7 @@ pub fn targets_of(
         Demand::Refers(kind, spot) => {
             push_referred(alloc, walk, table, kind, &spot, &mut numbers)?
         }
+        Demand::Includes(parts, _) => push_all_among(alloc, walk, table, parts, &mut numbers)?,
         _ => {}
     }
     Ok(numbers)
@@ -180,6 +211,46 @@ pub fn check_references<'a>(
     let name = target_name(demand);
     'items: for item in items {
         check_reference(section, name, numbers, item, findings)?;
+    }
+    Ok(())
+}
+
+// Adds that a table has none of some parts.
+fn check_present<'a>(
+    section: &'static str,
+    what: &'static str,
+    numbers: &[u64],
+    item: &Item<'a>,
+    findings: &mut Vec<Finding<'a>>,
+) -> Result<(), AllocError>
+    ensures { OnOk result (map noted findings.new.items ≡ map noted findings.old.items
+        ++ present_findings section.now what.now numbers.now (item_by item.now)) }
+{
+    if !numbers.is_empty() {
+        return Ok(());
+    }
+    let said = Said {
+        section,
+        number: 0,
+        most: 0,
+        other: what,
+    };
+    add_related(Rule::Present, &said, &item.field, findings)
+}
+
+/// Adds the fields of a table that has none of some parts, whose offsets these are.
+pub fn check_all_present<'a>(
+    section: &'static str,
+    what: &'static str,
+    numbers: &[u64],
+    items: &[Item<'a>],
+    findings: &mut Vec<Finding<'a>>,
+) -> Result<(), AllocError>
+    ensures { OnOk result (map noted findings.new.items ≡ map noted findings.old.items
+        ++ flat_map (present_findings section.now what.now numbers.now) (map item_by items.now)) }
+{
+    'items: for item in items {
+        check_present(section, what, numbers, item, findings)?;
     }
     Ok(())
 }

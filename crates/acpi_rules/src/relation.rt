@@ -15,12 +15,13 @@ use crate::finding::Finding;
 use crate::item::{Item, items_of};
 use crate::matrix::check_matrices;
 use crate::order::check_each;
-use crate::reference::{check_references, targets_of};
+use crate::reference::{check_all_present, check_references, targets_of};
 use crate::rules::signature_of;
 use acpi_base::walk::Walk;
 use std::alloc::{AllocError, Global};
 
-// Adds what parts of a table break of a demand on their field at an offset, where these numbers are allowed besides zero.
+// Adds what parts of a table break of a demand on their field at an offset, where these are the numbers that `targets_of`
+// returns.
 fn check_demand<'a>(
     alloc: Global,
     demand: &Demand,
@@ -42,6 +43,7 @@ fn check_demand<'a>(
         }
         Demand::Ends => check_chains(alloc, at, section, items, findings),
         Demand::Distances(first) => check_matrices(section, &first, items, findings),
+        Demand::Includes(_, what) => check_all_present(section, what, numbers, items, findings),
         Demand::AtMost(_)
         | Demand::Addresses(_)
         | Demand::Counts(_, _)

@@ -6,12 +6,12 @@ ghost use Rattle.acpi_rules.specs.Finding.{noted};
 ghost use Rattle.acpi_rules.specs.Rules.{fields_findings};
 ghost use Rattle.acpi_rules.specs.Relation.{relations_findings};
 ghost use Rattle.acpi_rules.specs.Standard.{allowed_numbers, ranges, numbered, different, ordered, counted, paired, aligned};
-ghost use Rattle.acpi_rules.specs.Standard.{bounded, referred, standard_findings, table_findings};
+ghost use Rattle.acpi_rules.specs.Standard.{bounded, referred, included, standard_findings, table_findings};
 
 use crate::allowed::Allowed;
 use crate::demand::Demand::{
     Addresses, Agrees, Apart, AtMost, Between, Counts, Differs, Disjoint, Distances, Ends,
-    Multiple, Needed, Needs, Points, Refers,
+    Includes, Multiple, Needed, Needs, Points, Refers,
 };
 use crate::demand::Of::{Each, Entries, Kind, Whole};
 use crate::demand::When::{Always, Is, Not};
@@ -180,6 +180,16 @@ macro_rules! spot {
             offset: $offset,
             width: $width,
             name: $name,
+        }
+    };
+}
+
+// Structures of a type, if some of their bits are as they have to be.
+macro_rules! among {
+    ($of:expr, $when:expr) => {
+        Among {
+            of: $of,
+            when: $when,
         }
     };
 }
@@ -466,6 +476,24 @@ pub const REFERRED: [Relation; 21] = [
         Refers(4, spot!(4, 2, "NVDIMM Control Region Structure Index")), "ACPI 6.5, 5.2.26.7"),
 ];
 
+// Processors that are enabled, or that can be brought online (ACPI 6.5, 5.2.12).
+#[rattlefmt::skip]
+const PROCESSORS: [Among; 6] = [
+    among!(Kind(0), Not(DWord(4), 3, 0)),
+    among!(Kind(7), Not(DWord(8), 3, 0)),
+    among!(Kind(9), Not(DWord(8), 3, 0)),
+    among!(Kind(11), Not(DWord(12), 9, 0)),
+    among!(Kind(17), Is(DWord(11), 1, 1)),
+    among!(Kind(24), Not(DWord(4), 3, 0)),
+];
+
+// Structures without which a table is of no use.
+#[rattlefmt::skip]
+const INCLUDED: [Relation; 1] = [
+    rule!("APIC", Whole, Always, spot!(0, 4, "Signature"),
+        Includes(&PROCESSORS, "processor that is enabled or online capable"), "ACPI 6.5, 5.2.12"),
+];
+
 #[tactic(auto, unfolding(crate::specs::Standard::numbered))]
 fn check_numbered<'a>(
     alloc: Global,
@@ -570,6 +598,19 @@ fn check_referred<'a>(
     check_relations(alloc, &REFERRED, walk, bytes, findings)
 }
 
+#[tactic(auto, unfolding(crate::specs::Standard::included))]
+fn check_included<'a>(
+    alloc: Global,
+    walk: Option<Walk>,
+    bytes: &'a [u8],
+    findings: &mut Vec<Finding<'a>>,
+) -> Result<(), AllocError>
+    ensures { OnOk result (map noted findings.new.items
+        ≡ map noted findings.old.items ++ relations_findings included walk bytes.now) }
+{
+    check_relations(alloc, &INCLUDED, walk, bytes, findings)
+}
+
 // ---- all rules
 
 // Adds the rules on several fields that a table breaks.
@@ -589,7 +630,8 @@ fn check_standard<'a>(
     check_paired(alloc, walk, bytes, findings)?;
     check_aligned(alloc, walk, bytes, findings)?;
     check_bounded(alloc, walk, bytes, findings)?;
-    check_referred(alloc, walk, bytes, findings)
+    check_referred(alloc, walk, bytes, findings)?;
+    check_included(alloc, walk, bytes, findings)
 }
 
 // Returns the rules that fields of a table break.
