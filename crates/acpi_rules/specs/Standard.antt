@@ -160,6 +160,9 @@ numbered =
     ∷ rule "APIC" (Kind 26) Always (spot 20 4 "Global System Interrupt Base") differs "ACPI 6.6, 5.2.12"
     ∷ rule "APIC" (Kind 27) Always (spot 3 1 "PLIC ID") differs "ACPI 6.6, 5.2.12"
     ∷ rule "APIC" (Kind 27) Always (spot 32 4 "Global System Interrupt Base") differs "ACPI 6.6, 5.2.12"
+    -- Ranges of redistributors.
+    ∷ rule "APIC" (Kind 14) Always (spot 4 8 "Discovery Range Base Address") (disjoint (spot 12 4 "Discovery Range Length"))
+    "ACPI 6.5, 5.2.12.17"
     ∷ []
 
 -- Numbers and addresses that no two structures of another table have.
@@ -181,6 +184,8 @@ different =
     ∷ rule "RSDT" Each Always (spot 0 4 "Entry") differs "ACPI 6.5, 5.2.7"
     ∷ rule "IORT" Each (Not (DWord 4) 0xffffffff 0) (spot 4 4 "Identifier") differs "Arm DEN0049E.d"
     ∷ rule "DMAR" (Kind 0) Always (spot 8 8 "Register Base Address") differs "VT-d 4.1, 8.3"
+    -- The unit that has all other devices of a segment.
+    ∷ rule "DMAR" (Kind 0) (Is (Byte 4) 1 1) (spot 6 2 "Segment Number") differs "VT-d 4.1, 8.3"
     ∷ rule "LPIT" (Kind 0) Always (spot 8 2 "Unique ID") differs "Intel Low Power S0 Idle 1.1"
     ∷ rule "APMT" Each Always (spot 4 4 "Identifier") differs "Arm DEN0117"
     ∷ rule "MPAM" Each Always (spot 4 4 "Identifier") differs "Arm DEN0065"
@@ -305,6 +310,8 @@ aligned =
     "Arm DEN0049E.d"
     ∷ rule "IORT" (Entries 6 (DWord 24) 28 (Field (DWord 20)) 20) Always (spot 8 8 "Physical Range Length") (multiple 0x10000)
     "Arm DEN0049E.d"
+    ∷ rule "APIC" (Kind 16) Always (spot 8 8 "MailBoxAddress") (multiple 4096) "ACPI 6.5, 5.2.12.19"
+    ∷ rule "MCFG" Each Always (spot 0 8 "Base Address") (multiple 0x100000) "PCI Firmware 3.3, 4.1.2"
     ∷ []
 
 -- Fields whose range depends on other fields, or on the type of a structure.
@@ -332,6 +339,7 @@ bounded =
     ∷ rule "PCCT" (Kind 2) Always (spot 16 8 "Memory Length") (between 9 0xffffffffffffffff) "ACPI 6.5, 14.1.5"
     ∷ rule "CEDT" (Kind 0) (Is (DWord 8) 0xffffffff 0) (spot 24 8 "Length") (between 8192 8192) "CXL 3.0, 9.17.1"
     ∷ rule "CEDT" (Kind 0) (Is (DWord 8) 0xffffffff 1) (spot 24 8 "Length") (between 0x10000 0x10000) "CXL 3.0, 9.17.1"
+    ∷ rule "RHCT" Whole Always (spot 40 8 "Time Base Frequency") (between 1 0xffffffffffffffff) "ACPI 6.6"
     ∷ rule "TCPA" Whole (Is (Word 36) 65535 0) (spot 4 4 "Length") (between 50 50) "TCG ACPI Specification 1.4"
     ∷ rule "TCPA" Whole (Is (Word 36) 65535 1) (spot 4 4 "Length") (between 100 100) "TCG ACPI Specification 1.4"
     ∷ []
@@ -378,6 +386,35 @@ referred =
     (refers 4 (spot 4 2 "NVDIMM Control Region Structure Index")) "ACPI 6.5, 5.2.26.7"
     ∷ []
 
+-- Blocks of registers and regions of memory, which have an address and a length.
+unfoldable pub placed : List Relation
+placed =
+    -- Blocks of a FADT without a length, unless the flag HW_REDUCED_ACPI is set.
+    rule "FACP" Whole (Is (DWord 112) 0x100000 0) (spot 80 4 "GPE0_BLK") (needs (spot 92 1 "GPE0_BLK_LEN")) "ACPI 6.5, 5.2.9"
+    ∷ rule "FACP" Whole (Is (DWord 112) 0x100000 0) (spot 84 4 "GPE1_BLK") (needs (spot 93 1 "GPE1_BLK_LEN")) "ACPI 6.5, 5.2.9"
+    ∷ rule "FACP" Whole (Is (DWord 112) 0x100000 0) (spot 200 8 "X_PM2_CNT_BLK") (needs (spot 90 1 "PM2_CNT_LEN"))
+    "ACPI 6.5, 5.2.9"
+    ∷ rule "FACP" Whole (Is (DWord 112) 0x100000 0) (spot 212 8 "X_PM_TMR_BLK") (needs (spot 91 1 "PM_TMR_LEN")) "ACPI 6.5, 5.2.9"
+    ∷ rule "FACP" Whole (Is (DWord 112) 0x100000 0) (spot 224 8 "X_GPE0_BLK") (needs (spot 92 1 "GPE0_BLK_LEN")) "ACPI 6.5, 5.2.9"
+    ∷ rule "FACP" Whole (Is (DWord 112) 0x100000 0) (spot 236 8 "X_GPE1_BLK") (needs (spot 93 1 "GPE1_BLK_LEN")) "ACPI 6.5, 5.2.9"
+    -- Regions of memory that have a length and an address.
+    ∷ rule "BERT" Whole Always (spot 36 4 "Boot Error Region Length") (needs (spot 40 8 "Boot Error Region")) "ACPI 6.5, 18.3.1"
+    ∷ rule "CCEL" Whole Always (spot 40 8 "Log Area Minimum Length") (needs (spot 48 8 "Log Area Start Address"))
+    "ACPI 6.5, 5.2.34"
+    -- Addresses that aren't zero, and lengths that have room for a Generic Error Status Block.
+    ∷ rule "FACP" Whole (Is (DWord 112) 1024 1024) (spot 120 8 "Address") (between 1 0xffffffffffffffff) "ACPI 6.5, 5.2.9"
+    ∷ rule "ECDT" Whole Always (spot 40 8 "Address") (between 1 0xffffffffffffffff) "ACPI 6.5, 5.2.15"
+    ∷ rule "ECDT" Whole Always (spot 52 8 "Address") (between 1 0xffffffffffffffff) "ACPI 6.5, 5.2.15"
+    ∷ rule "BERT" Whole (Not (DWord 36) 0xffffffff 0) (spot 36 4 "Boot Error Region Length") (between 20 0xffffffff)
+    "ACPI 6.5, 18.3.1"
+    ∷ rule "BGRT" Whole Always (spot 40 8 "Image Address") (between 1 0xffffffffffffffff) "ACPI 6.5, 5.2.23"
+    ∷ rule "DMAR" (Kind 0) Always (spot 8 8 "Register Base Address") (between 1 0xffffffffffffffff) "VT-d 4.1, 8.3"
+    ∷ rule "HEST" (Kind 9) (Is (Byte 7) 255 1) (spot 60 4 "Error Status Block Length") (between 20 0xffffffff)
+    "ACPI 6.5, 18.3.2.7"
+    ∷ rule "HEST" (Kind 10) (Is (Byte 7) 255 1) (spot 60 4 "Error Status Block Length") (between 20 0xffffffff)
+    "ACPI 6.5, 18.3.2.8"
+    ∷ []
+
 -- Processors that are enabled, or that can be brought online (ACPI 6.5, 5.2.12).
 abbrev pub processors : List Among
 processors =
@@ -409,6 +446,7 @@ standard_findings walk bytes =
     ++ relations_findings aligned walk bytes
     ++ relations_findings bounded walk bytes
     ++ relations_findings referred walk bytes
+    ++ relations_findings placed walk bytes
     ++ relations_findings included walk bytes
 
 -- The rules that a table breaks, by its form and its walk: those on each of its fields, in the order of their offsets, and then

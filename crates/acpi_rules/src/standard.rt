@@ -6,7 +6,7 @@ ghost use Rattle.acpi_rules.specs.Finding.{noted};
 ghost use Rattle.acpi_rules.specs.Rules.{fields_findings};
 ghost use Rattle.acpi_rules.specs.Relation.{relations_findings};
 ghost use Rattle.acpi_rules.specs.Standard.{allowed_numbers, ranges, numbered, different, ordered, counted, paired, aligned};
-ghost use Rattle.acpi_rules.specs.Standard.{bounded, referred, included, standard_findings, table_findings};
+ghost use Rattle.acpi_rules.specs.Standard.{bounded, referred, placed, included, standard_findings, table_findings};
 
 use crate::allowed::Allowed;
 use crate::demand::Demand::{
@@ -214,7 +214,7 @@ macro_rules! rule {
 
 // Numbers and addresses that no two structures of a MADT have.
 #[rattlefmt::skip]
-const NUMBERED: [Relation; 23] = [
+const NUMBERED: [Relation; 24] = [
     rule!("APIC", Kind(0), Is(DWord(4), 1, 1), spot!(2, 1, "ACPI Processor UID"), Differs, "ACPI 6.5, 5.2.12.2"),
     rule!("APIC", Kind(0), Is(DWord(4), 1, 1), spot!(3, 1, "APIC ID"), Differs, "ACPI 6.5, 5.2.12.2"),
     rule!("APIC", Kind(1), Always, spot!(2, 1, "I/O APIC ID"), Differs, "ACPI 6.5, 5.2.12.3"),
@@ -238,11 +238,14 @@ const NUMBERED: [Relation; 23] = [
     rule!("APIC", Kind(26), Always, spot!(20, 4, "Global System Interrupt Base"), Differs, "ACPI 6.6, 5.2.12"),
     rule!("APIC", Kind(27), Always, spot!(3, 1, "PLIC ID"), Differs, "ACPI 6.6, 5.2.12"),
     rule!("APIC", Kind(27), Always, spot!(32, 4, "Global System Interrupt Base"), Differs, "ACPI 6.6, 5.2.12"),
+    // Ranges of redistributors.
+    rule!("APIC", Kind(14), Always, spot!(4, 8, "Discovery Range Base Address"),
+        Disjoint(spot!(12, 4, "Discovery Range Length")), "ACPI 6.5, 5.2.12.17"),
 ];
 
 // Numbers and addresses that no two structures of another table have.
 #[rattlefmt::skip]
-const DIFFERENT: [Relation; 19] = [
+const DIFFERENT: [Relation; 20] = [
     rule!("SRAT", Kind(2), Is(DWord(12), 1, 1), spot!(8, 4, "X2APIC ID"), Differs, "ACPI 6.5, 5.2.16.3"),
     rule!("SRAT", Kind(3), Is(DWord(10), 1, 1), spot!(6, 4, "ACPI Processor UID"), Differs, "ACPI 6.5, 5.2.16.4"),
     rule!("SRAT", Kind(4), Always, spot!(8, 4, "ITS ID"), Differs, "ACPI 6.5, 5.2.16.5"),
@@ -259,6 +262,8 @@ const DIFFERENT: [Relation; 19] = [
     rule!("RSDT", Each, Always, spot!(0, 4, "Entry"), Differs, "ACPI 6.5, 5.2.7"),
     rule!("IORT", Each, Not(DWord(4), 0xffff_ffff, 0), spot!(4, 4, "Identifier"), Differs, "Arm DEN0049E.d"),
     rule!("DMAR", Kind(0), Always, spot!(8, 8, "Register Base Address"), Differs, "VT-d 4.1, 8.3"),
+    // The unit that has all other devices of a segment.
+    rule!("DMAR", Kind(0), Is(Byte(4), 1, 1), spot!(6, 2, "Segment Number"), Differs, "VT-d 4.1, 8.3"),
     rule!("LPIT", Kind(0), Always, spot!(8, 2, "Unique ID"), Differs, "Intel Low Power S0 Idle 1.1"),
     rule!("APMT", Each, Always, spot!(4, 4, "Identifier"), Differs, "Arm DEN0117"),
     rule!("MPAM", Each, Always, spot!(4, 4, "Identifier"), Differs, "Arm DEN0065"),
@@ -384,7 +389,7 @@ const PAIRED: [Relation; 19] = [
 
 // Fields that are multiples of numbers.
 #[rattlefmt::skip]
-const ALIGNED: [Relation; 10] = [
+const ALIGNED: [Relation; 12] = [
     rule!("FACP", Whole, Always, spot!(36, 4, "FIRMWARE_CTRL"), Multiple(64), "ACPI 6.5, 5.2.10"),
     rule!("FACP", Whole, Always, spot!(132, 8, "X_FIRMWARE_CTRL"), Multiple(64), "ACPI 6.5, 5.2.10"),
     rule!("FACP", Whole, Is(DWord(112), 0x10_0000, 0), spot!(92, 1, "GPE0_BLK_LEN"), Multiple(2), "ACPI 6.5, 5.2.9"),
@@ -397,11 +402,13 @@ const ALIGNED: [Relation; 10] = [
         Multiple(0x1_0000), "Arm DEN0049E.d"),
     rule!("IORT", Entries(6, DWord(24), 28, FieldCount(DWord(20)), 20), Always, spot!(8, 8, "Physical Range Length"),
         Multiple(0x1_0000), "Arm DEN0049E.d"),
+    rule!("APIC", Kind(16), Always, spot!(8, 8, "MailBoxAddress"), Multiple(4096), "ACPI 6.5, 5.2.12.19"),
+    rule!("MCFG", Each, Always, spot!(0, 8, "Base Address"), Multiple(0x10_0000), "PCI Firmware 3.3, 4.1.2"),
 ];
 
 // Fields whose range depends on other fields, or on the type of a structure.
 #[rattlefmt::skip]
-const BOUNDED: [Relation; 24] = [
+const BOUNDED: [Relation; 25] = [
     rule!("FACP", Whole, Is(DWord(112), 1024, 1024), spot!(116, 1, "Address Space ID"), Between(0, 2), "ACPI 6.5, 5.2.9"),
     rule!("FACP", Whole, Is(DWord(112), 1024, 1024), spot!(117, 1, "Register Bit Width"), Between(8, 8), "ACPI 6.5, 5.2.9"),
     rule!("FACP", Whole, Is(DWord(112), 1024, 1024), spot!(118, 1, "Register Bit Offset"), Between(0, 0), "ACPI 6.5, 5.2.9"),
@@ -429,6 +436,7 @@ const BOUNDED: [Relation; 24] = [
     rule!("CEDT", Kind(0), Is(DWord(8), 0xffff_ffff, 0), spot!(24, 8, "Length"), Between(8192, 8192), "CXL 3.0, 9.17.1"),
     rule!("CEDT", Kind(0), Is(DWord(8), 0xffff_ffff, 1), spot!(24, 8, "Length"), Between(0x1_0000, 0x1_0000),
         "CXL 3.0, 9.17.1"),
+    rule!("RHCT", Whole, Always, spot!(40, 8, "Time Base Frequency"), Between(1, 0xffff_ffff_ffff_ffff), "ACPI 6.6"),
     rule!("TCPA", Whole, Is(Word(36), 65535, 0), spot!(4, 4, "Length"), Between(50, 50), "TCG ACPI Specification 1.4"),
     rule!("TCPA", Whole, Is(Word(36), 65535, 1), spot!(4, 4, "Length"), Between(100, 100), "TCG ACPI Specification 1.4"),
 ];
@@ -474,6 +482,42 @@ pub const REFERRED: [Relation; 21] = [
         Refers(2, spot!(4, 2, "Interleave Structure Index")), "ACPI 6.5, 5.2.26.3"),
     rule!("NFIT", Kind(5), Always, spot!(4, 2, "NVDIMM Control Region Structure Index"),
         Refers(4, spot!(4, 2, "NVDIMM Control Region Structure Index")), "ACPI 6.5, 5.2.26.7"),
+];
+
+// Blocks of registers and regions of memory, which have an address and a length.
+#[rattlefmt::skip]
+const PLACED: [Relation; 16] = [
+    // Blocks of a FADT without a length, unless the flag HW_REDUCED_ACPI is set.
+    rule!("FACP", Whole, Is(DWord(112), 0x10_0000, 0), spot!(80, 4, "GPE0_BLK"), Needs(spot!(92, 1, "GPE0_BLK_LEN")),
+        "ACPI 6.5, 5.2.9"),
+    rule!("FACP", Whole, Is(DWord(112), 0x10_0000, 0), spot!(84, 4, "GPE1_BLK"), Needs(spot!(93, 1, "GPE1_BLK_LEN")),
+        "ACPI 6.5, 5.2.9"),
+    rule!("FACP", Whole, Is(DWord(112), 0x10_0000, 0), spot!(200, 8, "X_PM2_CNT_BLK"), Needs(spot!(90, 1, "PM2_CNT_LEN")),
+        "ACPI 6.5, 5.2.9"),
+    rule!("FACP", Whole, Is(DWord(112), 0x10_0000, 0), spot!(212, 8, "X_PM_TMR_BLK"), Needs(spot!(91, 1, "PM_TMR_LEN")),
+        "ACPI 6.5, 5.2.9"),
+    rule!("FACP", Whole, Is(DWord(112), 0x10_0000, 0), spot!(224, 8, "X_GPE0_BLK"), Needs(spot!(92, 1, "GPE0_BLK_LEN")),
+        "ACPI 6.5, 5.2.9"),
+    rule!("FACP", Whole, Is(DWord(112), 0x10_0000, 0), spot!(236, 8, "X_GPE1_BLK"), Needs(spot!(93, 1, "GPE1_BLK_LEN")),
+        "ACPI 6.5, 5.2.9"),
+    // Regions of memory that have a length and an address.
+    rule!("BERT", Whole, Always, spot!(36, 4, "Boot Error Region Length"), Needs(spot!(40, 8, "Boot Error Region")),
+        "ACPI 6.5, 18.3.1"),
+    rule!("CCEL", Whole, Always, spot!(40, 8, "Log Area Minimum Length"), Needs(spot!(48, 8, "Log Area Start Address")),
+        "ACPI 6.5, 5.2.34"),
+    // Addresses that aren't zero, and lengths that have room for a Generic Error Status Block.
+    rule!("FACP", Whole, Is(DWord(112), 1024, 1024), spot!(120, 8, "Address"), Between(1, 0xffff_ffff_ffff_ffff),
+        "ACPI 6.5, 5.2.9"),
+    rule!("ECDT", Whole, Always, spot!(40, 8, "Address"), Between(1, 0xffff_ffff_ffff_ffff), "ACPI 6.5, 5.2.15"),
+    rule!("ECDT", Whole, Always, spot!(52, 8, "Address"), Between(1, 0xffff_ffff_ffff_ffff), "ACPI 6.5, 5.2.15"),
+    rule!("BERT", Whole, Not(DWord(36), 0xffff_ffff, 0), spot!(36, 4, "Boot Error Region Length"), Between(20, 0xffff_ffff),
+        "ACPI 6.5, 18.3.1"),
+    rule!("BGRT", Whole, Always, spot!(40, 8, "Image Address"), Between(1, 0xffff_ffff_ffff_ffff), "ACPI 6.5, 5.2.23"),
+    rule!("DMAR", Kind(0), Always, spot!(8, 8, "Register Base Address"), Between(1, 0xffff_ffff_ffff_ffff), "VT-d 4.1, 8.3"),
+    rule!("HEST", Kind(9), Is(Byte(7), 255, 1), spot!(60, 4, "Error Status Block Length"), Between(20, 0xffff_ffff),
+        "ACPI 6.5, 18.3.2.7"),
+    rule!("HEST", Kind(10), Is(Byte(7), 255, 1), spot!(60, 4, "Error Status Block Length"), Between(20, 0xffff_ffff),
+        "ACPI 6.5, 18.3.2.8"),
 ];
 
 // Processors that are enabled, or that can be brought online (ACPI 6.5, 5.2.12).
@@ -598,6 +642,19 @@ fn check_referred<'a>(
     check_relations(alloc, &REFERRED, walk, bytes, findings)
 }
 
+#[tactic(auto, unfolding(crate::specs::Standard::placed))]
+fn check_placed<'a>(
+    alloc: Global,
+    walk: Option<Walk>,
+    bytes: &'a [u8],
+    findings: &mut Vec<Finding<'a>>,
+) -> Result<(), AllocError>
+    ensures { OnOk result (map noted findings.new.items
+        ≡ map noted findings.old.items ++ relations_findings placed walk bytes.now) }
+{
+    check_relations(alloc, &PLACED, walk, bytes, findings)
+}
+
 #[tactic(auto, unfolding(crate::specs::Standard::included))]
 fn check_included<'a>(
     alloc: Global,
@@ -631,6 +688,7 @@ fn check_standard<'a>(
     check_aligned(alloc, walk, bytes, findings)?;
     check_bounded(alloc, walk, bytes, findings)?;
     check_referred(alloc, walk, bytes, findings)?;
+    check_placed(alloc, walk, bytes, findings)?;
     check_included(alloc, walk, bytes, findings)
 }
 
