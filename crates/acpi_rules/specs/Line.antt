@@ -105,6 +105,10 @@ machine_text = codes ": the machine has "
 abbrev pub tables_text : ℕ → List ℕ → List ℕ
 tables_text n which = machine_text ++ decimal n ++ which
 
+-- that a table has none of some parts
+abbrev pub absent_text : List ℕ → List ℕ
+absent_text what = codes ": there is no " ++ label what
+
 -- what a finding on several fields says of the bytes of its field
 abbrev pub relates_text : Rule → ℕ → ℕ → List ℕ → List ℕ
 relates_text Unique number most other = codes ": also at " ++ decimal number
@@ -116,7 +120,7 @@ relates_text Count number most other = codes " in " ++ decimal most ++ codes " b
 relates_text Multiple number most other = codes " isn't n * " ++ decimal number
 relates_text Reference number most other = codes " isn't the " ++ label other ++ codes " of such a structure"
 relates_text Cycle number most other = codes " leads to a circle"
-relates_text Present number most other = codes ": there is no " ++ label other
+relates_text Present number most other = absent_text other
 relates_text Defined number most other = codes " isn't any " ++ label other
 relates_text Below number most other = own_text most ++ limit_text number other
 relates_text Single number most other = tables_text number (codes " of them")

@@ -4,7 +4,7 @@ ghost use Rattle.std.specs.Prelude.{◌≡◌, ◌++◌, OnOk, string_bytes};
 ghost use Rattle.acpi_rules.specs.Finding.{noted};
 ghost use Rattle.acpi_rules.specs.Line.{standard_tables, contains, severity, rule_name, hex_text, one_text};
 ghost use Rattle.acpi_rules.specs.Line.{reserved_text, range_text, pair_text, own_text, below_text, limit_text};
-ghost use Rattle.acpi_rules.specs.Line.{machine_text, tables_text, relates_text};
+ghost use Rattle.acpi_rules.specs.Line.{machine_text, tables_text, absent_text, relates_text};
 ghost use Rattle.acpi_rules.specs.Line.{says, field_text, source_text, finding_text};
 
 use crate::finding::{Finding, Rule};
@@ -210,6 +210,14 @@ fn push_tables(number: u64, which: &str, text: &mut String) -> Result<(), AllocE
     text.push_str(which)
 }
 
+// Adds that a table has none of some parts.
+fn push_absent(what: &str, text: &mut String) -> Result<(), AllocError>
+    ensures { OnOk result (string_bytes text.new ≡ string_bytes text.old ++ absent_text what.now) }
+{
+    text.push_str(": there is no ")?;
+    push_label(what, text)
+}
+
 // Adds what a finding on several fields says of the bytes of its field.
 fn push_relates(
     rule: Rule,
@@ -252,10 +260,7 @@ fn push_relates(
             text.push_str(" of such a structure")
         }
         Rule::Cycle => text.push_str(" leads to a circle"),
-        Rule::Present => {
-            text.push_str(": there is no ")?;
-            push_label(other, text)
-        }
+        Rule::Present => push_absent(other, text),
         Rule::Defined => {
             text.push_str(" isn't any ")?;
             push_label(other, text)
