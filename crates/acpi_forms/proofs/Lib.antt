@@ -1,3 +1,4 @@
+mod Layouts
 mod Named
 pub mod Signatures
 mod Meant

@@ -1,12 +1,15 @@
 -- Which layout a table has, and the names of its form. Two signatures have two layouts.
 use Rattle.std.specs.Prelude.{◌≡◌, ℕ, nat_le, ◌==◌, ◌&&◌, not, Bool, false, if◌then◌else◌, List, [], ◌++◌, drop, codes}
+use Rattle.std.specs.Prelude.{Option, Some, None}
 use Rattle.acpi_base.specs.Walk.{named}
 use Rattle.acpi_base.specs.declared.walk.Place.TheVariants.{Byte, Word, DWord}
 use Rattle.acpi_forms.specs.FurtherNames.{earlier_pmtt_names, specified_rimt_names}
 use Rattle.acpi_forms.specs.Named.{Named, names_of}
 use Rattle.acpi_forms.specs.declared.layout.Layout.{Layout}
 use Rattle.acpi_forms.specs.declared.layout.Layout.TheVariants.{Usual, SpecifiedRimt, EarlierPmtt}
-use Rattle.acpi_make.specs.Signature.{has_line}
+use Rattle.acpi_make.specs.Fault.{Fault, next}
+use Rattle.acpi_make.specs.Signature.{has_line, heading_at}
+use Rattle.acpi_make.specs.Text.{if_some}
 use Rattle.acpi_make.specs.declared.item.Item.{Item}
 use Rattle.acpi_nodes.specs.Rimt.{iommu_bytes, root_complex_bytes, platform_bytes}
 use Rattle.acpi_nodes.specs.declared.rimt.Iommu.{Iommu}
@@ -72,6 +75,44 @@ names_as EarlierPmtt signature = earlier_pmtt_names
 unfoldable pub names_in : ℕ → List ℕ → Named
 names_in signature bytes = names_as (layout_in signature bytes) signature
 
--- those of the table of a text
-unfoldable pub names_of_text : ℕ → List ℕ → List Item → Named
-names_of_text signature text parts = names_as (layout_of_text signature text parts) signature
+-- ---- the layout of a table that was made of a text
+
+-- That of its bytes. A RIMT of the specification has the layout of its text, since not each first node says it.
+abbrev pub layout_made : Layout → Layout → Layout
+layout_made SpecifiedRimt found = SpecifiedRimt
+layout_made Usual found = found
+layout_made EarlierPmtt found = found
+
+-- this layout, if it isn't that of the text
+abbrev pub another_layout : Layout → Layout → Option Layout
+another_layout SpecifiedRimt found = None
+another_layout Usual Usual = None
+another_layout Usual SpecifiedRimt = Some SpecifiedRimt
+another_layout Usual EarlierPmtt = Some EarlierPmtt
+another_layout EarlierPmtt Usual = Some Usual
+another_layout EarlierPmtt SpecifiedRimt = Some SpecifiedRimt
+another_layout EarlierPmtt EarlierPmtt = None
+
+-- what has to stand in place of a line that this layout doesn't have
+abbrev pub line_words : Layout → List ℕ
+line_words Usual = codes "a line of a PMTT whose revision isn't 1"
+line_words SpecifiedRimt = codes "a line of a RIMT whose first node is one of the RISC-V specification"
+line_words EarlierPmtt = codes "a line of a PMTT of revision 1"
+
+-- ---- the heading of a table
+
+-- the other layout of a signature that has two
+abbrev pub other_layout : ℕ → Layout → Option Layout
+other_layout signature Usual =
+    if signature == named (codes "RIMT") then Some SpecifiedRimt
+    else (if signature == named (codes "PMTT") then Some EarlierPmtt
+    else None)
+other_layout signature SpecifiedRimt = Some Usual
+other_layout signature EarlierPmtt = Some Usual
+
+-- the fault of a heading that is the name of the other layout
+unfoldable pub heading_fault : Layout → ℕ → List ℕ → List Item → Option Fault
+heading_fault layout signature text parts =
+    if_some (other_layout signature layout) (λ other.
+    if_some (heading_at (names_as other signature).name text parts) (λ range.
+    Some (next range.0 range.1 (names_as layout signature).name 0)))

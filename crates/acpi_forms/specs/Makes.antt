@@ -11,7 +11,7 @@ use Rattle.acpi_make.specs.Signature.{signature_of, begins_with_length, has_line
 use Rattle.acpi_make.specs.Template.{template_text}
 use Rattle.acpi_make.specs.declared.file_kind.FileKind.{FileKind}
 use Rattle.acpi_make.specs.declared.file_kind.FileKind.TheVariants.{Table, Rsdp, Facs, Cdat, S3pt}
-use Rattle.acpi_make.specs.Fault.{Fault, fault}
+use Rattle.acpi_make.specs.Fault.{Fault, fault, next}
 use Rattle.acpi_make.specs.Item.{cells_of}
 use Rattle.acpi_make.specs.Source.{Source}
 use Rattle.acpi_make.specs.declared.fault.MakeError.{MakeError}
@@ -21,8 +21,9 @@ use Rattle.acpi_make.specs.declared.item.Item.{Item}
 use Rattle.acpi_make.specs.declared.make.Made.{Made}
 use Rattle.acpi_text.specs.declared.form.TableForm.{TableForm}
 use Rattle.acpi_forms.specs.File.{names_by, walk_by}
-use Rattle.acpi_forms.specs.Layout.{names_of_text}
+use Rattle.acpi_forms.specs.Layout.{layout_in, layout_of_text, names_as, another_layout, line_words, layout_made, heading_fault}
 use Rattle.acpi_forms.specs.Named.{Named, IsNamed, names_of}
+use Rattle.acpi_forms.specs.declared.layout.Layout.{Layout}
 
 -- ---- the kind of file, by its signature
 
@@ -61,13 +62,61 @@ pub record IsMadeBy (names : Named) (walk : Option Walk) (file_kind : FileKind) 
   pub same : source.text ≡ text
   pub gives : Gives table_of result (made file_kind walk source parts)
 
-abbrev pub IsMadeAs : ℕ → List ℕ → List Item → Result Made MakeError → Type 0
-IsMadeAs signature text parts result =
+-- the table of a text by a layout of its signature
+abbrev pub IsMadeIn : Layout → ℕ → List ℕ → List Item → Result Made MakeError → Type 0
+IsMadeIn layout signature text parts result =
     let kind = text_kind text parts signature in
-    IsMadeBy (names_by kind (names_of_text signature text parts)) (walk_by kind signature) kind text parts result
+    IsMadeBy (names_by kind (names_as layout signature)) (walk_by kind signature) kind text parts result
 
 abbrev pub IsRefused : Fault → Result Made MakeError → Type 0
 IsRefused wrong result = Gives {B = Made} (λ made. made) result (Err wrong)
+
+-- a table, or in place of any fault that of a line which this layout doesn't have
+abbrev pub IsToldIn : Layout → Result Made MakeError → Result Made MakeError → Type 0
+IsToldIn layout (Ok made) result = result ≡ Ok made
+IsToldIn layout (Err errors.Memory) result = result ≡ Err errors.Memory
+IsToldIn layout (Err (errors.Fault wrong)) result = IsRefused (next wrong.from wrong.to (line_words layout) 0) result
+
+-- what comes of a text by the layout of its bytes
+pub record IsMadeAgain (layout : Layout) (signature : ℕ) (text : List ℕ) (parts : List Item) (result : Result Made MakeError)
+    : Type 0 where
+  pub outcome : Result Made MakeError
+  pub is : IsMadeIn layout signature text parts outcome
+  pub told : IsToldIn layout outcome result
+
+-- a table whose bytes have the layout of its text, or what comes of the text by the layout of these bytes
+abbrev pub IsSettled : Option Layout → ℕ → List ℕ → List Item → Made → Result Made MakeError → Type 0
+IsSettled None signature text parts made result = result ≡ Ok made
+IsSettled (Some layout) signature text parts made result = IsMadeAgain layout signature text parts result
+
+-- a table, or the fault of its heading
+abbrev pub IsHeaded : Option Fault → Made → Result Made MakeError → Type 0
+IsHeaded None made result = result ≡ Ok made
+IsHeaded (Some wrong) made result = IsRefused wrong result
+
+-- what follows from an outcome
+abbrev pub Then : Result Made MakeError → (Made → Type 0) → Result Made MakeError → Type 0
+Then (Ok made) next result = next made
+Then (Err error) next result = result ≡ Err error
+
+-- the layout of the bytes that were made of a text, if it isn't that of its fields
+abbrev pub another_in : ℕ → List ℕ → List Item → Made → Option Layout
+another_in signature text parts made =
+    another_layout (layout_of_text signature text parts) (layout_in signature made.bytes.items)
+
+-- the fault of the heading of a text, by the layout of its table
+abbrev pub heading_in : ℕ → List ℕ → List Item → Made → Option Fault
+heading_in signature text parts made =
+    heading_fault (layout_made (layout_of_text signature text parts) (layout_in signature made.bytes.items)) signature text parts
+
+-- The table of a text by the layout of its fields. If its bytes have another one, the text is made by that. The heading of the
+-- table isn't the name of the layout that it doesn't have.
+pub record IsMadeAs (signature : ℕ) (text : List ℕ) (parts : List Item) (result : Result Made MakeError) : Type 0 where
+  pub stated : Result Made MakeError
+  pub is : IsMadeIn (layout_of_text signature text parts) signature text parts stated
+  pub found : Result Made MakeError
+  pub settled : Then stated (λ made. IsSettled (another_in signature text parts made) signature text parts made found) found
+  pub headed : Then found (λ made. IsHeaded (heading_in signature text parts made) made result) result
 
 -- a text without bytes is no table
 abbrev pub IsMadeIf : Bool → List Item → List ℕ → Result Made MakeError → Type 0

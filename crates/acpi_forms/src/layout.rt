@@ -4,15 +4,18 @@ ghost use Rattle.std.specs.Prelude.{◌≡◌, drop};
 ghost use Rattle.acpi_forms.specs.Layout.{is_specified_iommu, is_specified_root_complex, is_specified_platform};
 ghost use Rattle.acpi_forms.specs.Layout.{is_specified_node};
 ghost use Rattle.acpi_forms.specs.Layout.{WrittenAreUsual};
-ghost use Rattle.acpi_forms.specs.Layout.{layout_in, layout_of_text, names_as, names_in, names_of_text};
+ghost use Rattle.acpi_forms.specs.Layout.{layout_in, layout_of_text, names_as, names_in};
+ghost use Rattle.acpi_forms.specs.Layout.{layout_made, another_layout, line_words, other_layout, heading_fault};
 ghost use Rattle.acpi_forms.specs.Named.{IsNamed};
+ghost use Rattle.acpi_make.specs.Draft.{fault_in};
 
 use crate::form::form_of;
 use crate::further::pmtt::earlier_pmtt_form;
 use crate::further::rimt::specified_rimt_form;
 use acpi_base::walk::Place;
+use acpi_make::fault::Fault;
 use acpi_make::item::Item;
-use acpi_make::signature::has_line;
+use acpi_make::signature::{has_line, heading_at};
 use acpi_text::form::TableForm;
 use acpi_text::part::number_at;
 
@@ -79,9 +82,9 @@ fn is_specified_node(node: &[u8]) -> bool
     }
 }
 
-// Returns the layout of a table of a signature. The first node of a RIMT, whose offset is at 40, says which layout the table has.
-// Where it doesn't, the table has that of the profile.
-fn layout_in(signature: u32, bytes: &[u8]) -> Layout
+/// Returns the layout of a table of a signature. The first node of a RIMT, whose offset is at 40, says which layout the table
+/// has. Where it doesn't, the table has that of the profile.
+pub(crate) fn layout_in(signature: u32, bytes: &[u8]) -> Layout
     ensures { result ≡ layout_in signature bytes.now }
 {
     if signature == u32::from_le_bytes(*b"RIMT")
@@ -95,8 +98,8 @@ fn layout_in(signature: u32, bytes: &[u8]) -> Layout
     }
 }
 
-// Returns the layout of the table of a text, by a field of the table itself that only one of the two layouts has.
-fn layout_of_text(signature: u32, text: &[u8], items: &[Item]) -> Layout
+/// Returns the layout of the table of a text, by a field of the table itself that only one of the two layouts has.
+pub(crate) fn layout_of_text(signature: u32, text: &[u8], items: &[Item]) -> Layout
     ensures { result ≡ layout_of_text signature text.now items.now }
 {
     if signature == u32::from_le_bytes(*b"RIMT")
@@ -112,8 +115,8 @@ fn layout_of_text(signature: u32, text: &[u8], items: &[Item]) -> Layout
     }
 }
 
-// Returns the form of the tables of a signature that have a layout.
-fn form_as(layout: Layout, signature: u32) -> TableForm
+/// Returns the form of the tables of a signature that have a layout.
+pub(crate) fn form_as(layout: Layout, signature: u32) -> TableForm
     ensures { IsNamed result (names_as layout signature) }
 {
     match layout {
@@ -139,10 +142,65 @@ pub fn form_in(signature: u32, bytes: &[u8]) -> TableForm
     form_as(layout_in(signature, bytes), signature)
 }
 
-/// Returns the form of the table of a text, by the names of its fields.
-#[tactic(auto, unfolding(crate::specs::Layout::names_of_text))]
-pub fn form_of_text(signature: u32, text: &[u8], items: &[Item]) -> TableForm
-    ensures { IsNamed result (names_of_text signature text.now items.now) }
+/// Returns the layout of a table that was made of a text, by that of the text and that of the bytes. A RIMT of the specification
+/// has that of its text, since not each first node says it.
+pub(crate) fn layout_made(stated: Layout, found: Layout) -> Layout
+    ensures { result ≡ layout_made stated found }
 {
-    form_as(layout_of_text(signature, text, items), signature)
+    match stated {
+        Layout::SpecifiedRimt => Layout::SpecifiedRimt,
+        Layout::Usual | Layout::EarlierPmtt => found,
+    }
+}
+
+/// Returns this layout, if it isn't that of the text.
+pub(crate) fn another_layout(stated: Layout, found: Layout) -> Option<Layout>
+    ensures { result ≡ another_layout stated found }
+{
+    match (stated, found) {
+        (Layout::SpecifiedRimt, _) => None,
+        (Layout::Usual, Layout::Usual) => None,
+        (Layout::EarlierPmtt, Layout::EarlierPmtt) => None,
+        (_, found) => Some(found),
+    }
+}
+
+/// Returns what has to stand in place of a line that a layout doesn't have.
+pub(crate) fn line_words(layout: Layout) -> &'static str
+    ensures { result.now ≡ line_words layout }
+{
+    match layout {
+        Layout::Usual => "a line of a PMTT whose revision isn't 1",
+        Layout::SpecifiedRimt => {
+            "a line of a RIMT whose first node is one of the RISC-V specification"
+        }
+        Layout::EarlierPmtt => "a line of a PMTT of revision 1",
+    }
+}
+
+// Returns the other layout of a signature that has two.
+fn other_layout(signature: u32, layout: Layout) -> Option<Layout>
+    ensures { result ≡ other_layout signature layout }
+{
+    match layout {
+        Layout::Usual if signature == u32::from_le_bytes(*b"RIMT") => Some(Layout::SpecifiedRimt),
+        Layout::Usual if signature == u32::from_le_bytes(*b"PMTT") => Some(Layout::EarlierPmtt),
+        Layout::Usual => None,
+        Layout::SpecifiedRimt | Layout::EarlierPmtt => Some(Layout::Usual),
+    }
+}
+
+/// Returns the fault of a heading that is the name of the other layout.
+#[tactic(auto, unfolding(crate::specs::Layout::heading_fault))]
+pub(crate) fn heading_fault(
+    layout: Layout,
+    signature: u32,
+    text: &[u8],
+    items: &[Item],
+) -> Option<Fault>
+    ensures { fault_in result ≡ heading_fault layout signature text.now items.now }
+{
+    let other = form_as(other_layout(signature, layout)?, signature);
+    let (from, to) = heading_at(other.name.as_bytes(), text, items)?;
+    Some(Fault::next(from, to, form_as(layout, signature).name, 0))
 }

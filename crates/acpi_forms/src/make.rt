@@ -2,12 +2,16 @@
 
 ghost use Rattle.std.specs.Prelude.{◌≡◌, ◌≢◌, length, string_bytes, IfOk, MatchOption};
 ghost use Rattle.acpi_base.specs.Bytes.{carried};
-ghost use Rattle.acpi_forms.specs.Makes.{file_kind_of, text_kind, IsMadeAs, IsMade};
+ghost use Rattle.acpi_forms.specs.Makes.{file_kind_of, text_kind, IsMadeIn, IsToldIn, IsMadeAgain, IsSettled, IsHeaded};
+ghost use Rattle.acpi_forms.specs.Makes.{another_in, heading_in, IsMadeAs, IsMade};
 ghost use Rattle.acpi_forms.specs.Makes.{template_kind, signature_text, IsTemplateOf};
 
 use crate::file::{form_by, walk_by};
 use crate::form::form_of;
-use crate::layout::form_of_text;
+use crate::layout::{
+    Layout, another_layout, form_as, heading_fault, layout_in, layout_made, layout_of_text,
+    line_words,
+};
 use acpi_make::fault::{Fault, MakeError, Wanted};
 use acpi_make::file_kind::FileKind;
 use acpi_make::item::{Item, has_bytes};
@@ -54,14 +58,86 @@ fn template_kind(signature: u32) -> FileKind
     }
 }
 
-// Returns the table of a text by its kind, its signature and its layout.
+// Returns the table of a text by its kind, its signature and a layout.
+fn make_in(
+    alloc: Global,
+    layout: Layout,
+    signature: u32,
+    text: &[u8],
+    items: &[Item],
+) -> Result<Made, MakeError>
+    ensures { IsMadeIn layout signature text.now items.now result }
+{
+    let file_kind = text_kind(text, items, signature);
+    let form = form_by(file_kind, form_as(layout, signature));
+    let walk = walk_by(file_kind, signature);
+    make_of(alloc, form, walk, file_kind, text, items)
+}
+
+// Returns an outcome with the fault of a line that a layout doesn't have, in place of any other fault.
+fn tell_in(layout: Layout, outcome: Result<Made, MakeError>) -> Result<Made, MakeError>
+    ensures { IsToldIn layout outcome result }
+{
+    match outcome {
+        Err(MakeError::Fault(wrong)) => {
+            let fault = Fault::next(wrong.from, wrong.to, line_words(layout), 0);
+            Err(MakeError::Fault(fault))
+        }
+        outcome => outcome,
+    }
+}
+
+// Returns what comes of a text by the layout of its bytes.
+fn make_again(
+    alloc: Global,
+    layout: Layout,
+    signature: u32,
+    text: &[u8],
+    items: &[Item],
+) -> Result<Made, MakeError>
+    ensures { IsMadeAgain layout signature text.now items.now result }
+{
+    let outcome = make_in(alloc, layout, signature, text, items);
+    tell_in(layout, outcome)
+}
+
+// Returns a table whose bytes have the layout of its text, or what comes of the text by the layout of these bytes.
+fn settle(
+    alloc: Global,
+    signature: u32,
+    text: &[u8],
+    items: &[Item],
+    made: Made,
+) -> Result<Made, MakeError>
+    ensures { IsSettled (another_in signature text.now items.now made) signature text.now items.now made result }
+{
+    let stated = layout_of_text(signature, text, items);
+    match another_layout(stated, layout_in(signature, &made.bytes)) {
+        Some(layout) => make_again(alloc, layout, signature, text, items),
+        None => Ok(made),
+    }
+}
+
+// Returns a table, or the fault of a heading that is the name of the other layout.
+fn headed(signature: u32, text: &[u8], items: &[Item], made: Made) -> Result<Made, MakeError>
+    ensures { IsHeaded (heading_in signature text.now items.now made) made result }
+{
+    let stated = layout_of_text(signature, text, items);
+    let layout = layout_made(stated, layout_in(signature, &made.bytes));
+    match heading_fault(layout, signature, text, items) {
+        Some(fault) => Err(MakeError::Fault(fault)),
+        None => Ok(made),
+    }
+}
+
+// Returns the table of a text by its kind and its signature.
 fn make_as(alloc: Global, signature: u32, text: &[u8], items: &[Item]) -> Result<Made, MakeError>
     ensures { IsMadeAs signature text.now items.now result }
 {
-    let file_kind = text_kind(text, items, signature);
-    let form = form_by(file_kind, form_of_text(signature, text, items));
-    let walk = walk_by(file_kind, signature);
-    make_of(alloc, form, walk, file_kind, text, items)
+    let layout = layout_of_text(signature, text, items);
+    let stated = make_in(alloc, layout, signature, text, items)?;
+    let found = settle(alloc, signature, text, items, stated)?;
+    headed(signature, text, items, found)
 }
 
 /// Returns the table that a text is made into: its bytes, and its own numbers that the text states otherwise. The form of the
@@ -69,6 +145,9 @@ fn make_as(alloc: Global, signature: u32, text: &[u8], items: &[Item]) -> Result
 ///
 /// - The text of a RIMT that has a line `Offset to RIMT Node Array` is that of a table of the RISC-V specification.
 /// - The text of a PMTT that has no line `Number of Memory Devices` is that of a table of revision 1.
+///
+/// If the bytes of the table have the other layout, the text has to be that of a table of this other one, too, as a text without
+/// names is. Its first line isn't the name of a table of the layout that the table doesn't have.
 ///
 /// A text whose first field is called `Length`, and that has a line `Sequence`, is that of a Coherent Device Attribute Table,
 /// which has no signature. The error is that memory ran out, or what is wrong with the text, and where.

@@ -1,5 +1,6 @@
 -- How the table of a text begins: with its signature, or without one.
-use Rattle.std.specs.Prelude.{ℕ, ◌||◌, Bool, false, List, [], ◌∷◌, Option, Some, None, codes}
+use Rattle.std.specs.Prelude.{ℕ, ◌||◌, Bool, false, if◌then◌else◌, List, [], ◌∷◌, Option, Some, None}
+use Rattle.std.specs.Prelude.{codes}
 use Rattle.acpi_base.specs.Bytes.{carried}
 use Rattle.acpi_make.specs.Entry.{is_line_of}
 use Rattle.acpi_make.specs.Text.{if_some, part_at, after_offset}
@@ -40,3 +41,11 @@ has_line name text (Heading from to ∷ items) = has_line name text items
 has_line name text (Name from to ∷ items) = is_line_of name (after_offset (part_at from to text)) || has_line name text items
 has_line name text (Cell cell ∷ items) = has_line name text items
 has_line name text (Value from to ∷ items) = has_line name text items
+
+-- the range of the heading with which a text begins, if it has a name
+abbrev pub heading_at : List ℕ → List ℕ → List Item → Option (ℕ × ℕ)
+heading_at name text [] = None
+heading_at name text (Heading from to ∷ items) = if is_line_of name (part_at from to text) then Some (from, to) else None
+heading_at name text (Name from to ∷ items) = None
+heading_at name text (Cell cell ∷ items) = None
+heading_at name text (Value from to ∷ items) = None

@@ -1,7 +1,7 @@
 //! How the table of a text begins: with its signature, or without one.
 
 ghost use Rattle.std.specs.Prelude.{◌≡◌, MatchOption, None, Some};
-ghost use Rattle.acpi_make.specs.Signature.{first_byte, signature_of, begins_with_length, has_line};
+ghost use Rattle.acpi_make.specs.Signature.{first_byte, signature_of, begins_with_length, has_line, heading_at};
 
 use crate::entry::is_line_of;
 use crate::item::{Cell, Item};
@@ -70,4 +70,16 @@ pub fn has_line(name: &[u8], text: &[u8], items: &[Item]) -> bool
         }
     }
     false
+}
+
+/// Returns the range of the heading with which a text begins, if it has this name.
+pub fn heading_at(name: &[u8], text: &[u8], items: &[Item]) -> Option<(usize, usize)>
+    ensures { result ≡ heading_at name.now text.now items.now }
+{
+    match items {
+        [Item::Heading(from, to), ..] if is_line_of(name, part_at(*from, *to, text)) => {
+            Some((*from, *to))
+        }
+        _ => None,
+    }
 }
