@@ -82,8 +82,8 @@ hint look = []
 
 -- ---- a field
 
--- What a template has in place of zeros: the signature at offset 0, question marks at the offsets of a table's own numbers, and
--- 1 at those of the numbers of a matrix's rows and columns.
+-- What a template has in place of zeros: the signature at offset 0, question marks at the offsets of numbers that are worked out,
+-- and 1 at those of other numbers of what stands once.
 pub record Known : Type 0 where
   pub signature : List ℕ
   pub own : List ℕ
@@ -236,13 +236,15 @@ count_at (parts.BySize from to choices) = []
 abbrev pub counts_at : List Part → List ℕ
 counts_at list = flat_map count_at list
 
--- the offsets of the numbers of rows and columns
-abbrev pub sides_at : Part → List ℕ
-sides_at (parts.Matrix name w rows columns) = place_at rows ++ place_at columns
-sides_at part = []
+-- the offsets of the numbers of what stands once in a template: an entry, and a matrix's row and its column
+abbrev pub ones_at : Part → List ℕ
+ones_at (parts.Entries name count rows) = counted_at count
+ones_at (parts.Numbers name w count) = counted_at count
+ones_at (parts.Matrix name w rows columns) = place_at rows ++ place_at columns
+ones_at part = []
 
-abbrev pub all_sides : List Part → List ℕ
-all_sides list = flat_map sides_at list
+abbrev pub all_ones : List Part → List ℕ
+all_ones list = flat_map ones_at list
 
 -- ---- structures and tables
 
@@ -252,11 +254,11 @@ inner_size_at (sizes.Walked told) = size_at told
 inner_size_at (sizes.Counted n count each) = place_at count
 inner_size_at sizes.Rest = []
 
--- a structure within another: its name and its parts
+-- A structure within another: its name and its parts. The numbers of its entries aren't worked out.
 abbrev pub inner_form_lines : InnerForm → List ℕ
 inner_form_lines form =
     title_line 0 form.name.now
-    ++ parts_lines 1 (record { signature = []; own = inner_size_at form.size; ones = [] }) 0 form.parts.now
+    ++ parts_lines 1 (record { signature = []; own = inner_size_at form.size; ones = all_ones form.parts.now }) 0 form.parts.now
 
 abbrev pub inner_forms_lines : List InnerForm → List ℕ
 inner_forms_lines forms = flat_map inner_form_lines forms
@@ -283,7 +285,7 @@ abbrev pub structure_known : Walk → List Part → Inner → Known
 structure_known walk list inner = record {
   signature = [];
   own = place_at walk.kind ++ (size_at walk.sizes ++ (counts_at list ++ inner_counts_at inner));
-  ones = all_sides list;
+  ones = all_ones list;
 }
 
 -- a structure's name and its parts
@@ -316,7 +318,7 @@ abbrev pub table_known : List ℕ → FileKind → Option Walk → TableForm →
 table_known signature file_kind walk form = record {
   signature = signature;
   own = table_own file_kind walk form;
-  ones = all_sides form.parts.now;
+  ones = all_ones form.parts.now;
 }
 
 -- one structure of each kind; without a walk, the structures that the form has

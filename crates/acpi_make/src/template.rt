@@ -13,7 +13,7 @@ ghost use Rattle.acpi_make.specs.Template.{inner_size_at, inner_form_lines, inne
 ghost use Rattle.acpi_make.specs.Template.{lists_counts_at, inner_counts_at, structure_known};
 ghost use Rattle.acpi_make.specs.Template.{structure_lines, structures_lines, structures_text, sums_at, walk_at, table_own};
 ghost use Rattle.acpi_make.specs.Template.{template_text};
-ghost use Rattle.acpi_make.specs.Template.{stated_text, sides_at, all_sides};
+ghost use Rattle.acpi_make.specs.Template.{stated_text, ones_at, all_ones};
 ghost use Rattle.acpi_make.specs.Template as template;
 ghost use Rattle.acpi_make.specs.TemplateKnown.{known_of};
 ghost use Rattle.acpi_text.specs.Structure.{all_forms};
@@ -129,8 +129,8 @@ fn push_hint(look: Look, text: &mut String) -> Result<(), AllocError>
     }
 }
 
-// What a template has in place of zeros: the signature at offset 0, question marks at the offsets of a table's own numbers, and
-// 1 at those of the numbers of a matrix's rows and columns.
+// What a template has in place of zeros: the signature at offset 0, question marks at the offsets of numbers that are worked out,
+// and 1 at those of other numbers of what stands once.
 #[derive(Clone, Copy, Debug)]
 struct Known<'a> {
     signature: &'a str,
@@ -526,28 +526,30 @@ fn push_counts(parts: &[Part], own: &mut Vec<usize>) -> Result<(), AllocError>
     Ok(())
 }
 
-// Adds the offsets of the numbers of rows and columns.
-fn push_sides(part: &Part, ones: &mut Vec<usize>) -> Result<(), AllocError>
-    ensures { OnOk result (ones.new.items ≡ ones.old.items ++ sides_at part.now) }
+// Adds the offsets of the numbers of what stands once: an entry, and a matrix's row and its column.
+fn push_ones(part: &Part, ones: &mut Vec<usize>) -> Result<(), AllocError>
+    ensures { OnOk result (ones.new.items ≡ ones.old.items ++ ones_at part.now) }
 {
     match *part {
+        Part::Entries(_, count, _) => push_counted(count, ones),
+        Part::Numbers(_, _, count) => push_counted(count, ones),
         Part::Matrix(_, _, rows, columns) => {
             push_place(rows, ones)?;
             push_place(columns, ones)
         }
         Part::Fields(_) | Part::Between(_, _, _) | Part::Group(_, _) => Ok(()),
-        Part::Entries(_, _, _) | Part::Numbers(_, _, _) | Part::Bytes(_, _) => Ok(()),
-        Part::Until(_, _) | Part::Chosen(_, _) | Part::BySize(_, _, _) => Ok(()),
+        Part::Bytes(_, _) | Part::Until(_, _) => Ok(()),
+        Part::Chosen(_, _) | Part::BySize(_, _, _) => Ok(()),
     }
 }
 
-// Returns the offsets of the numbers of rows and columns.
-fn all_sides(alloc: Global, parts: &[Part]) -> Result<Vec<usize>, AllocError>
-    ensures { IfOk result (λ ones. ones.items ≡ all_sides parts.now) }
+// Returns the offsets of the numbers of what stands once.
+fn all_ones(alloc: Global, parts: &[Part]) -> Result<Vec<usize>, AllocError>
+    ensures { IfOk result (λ ones. ones.items ≡ all_ones parts.now) }
 {
     let mut ones = Vec::new(alloc);
     'parts: for part in parts {
-        push_sides(part, &mut ones)?;
+        push_ones(part, &mut ones)?;
     }
     Ok(ones)
 }
@@ -569,10 +571,11 @@ fn push_inner_form(alloc: Global, form: &InnerForm, text: &mut String) -> Result
 {
     let mut own = Vec::new(alloc);
     push_inner_size(form.size, &mut own)?;
+    let ones = all_ones(alloc, form.parts)?;
     let known = Known {
         signature: "",
         own: &own,
-        ones: &[],
+        ones: &ones,
     };
     push_title(0, form.name, text)?;
     push_parts(1, &known, 0, form.parts, text)
@@ -652,7 +655,7 @@ fn push_structure(
     ensures { OnOk result (string_bytes text.new ≡ string_bytes text.old ++ structure_lines walk.now form.now) }
 {
     let own = structure_own(alloc, walk, form.parts, form.inner)?;
-    let ones = all_sides(alloc, form.parts)?;
+    let ones = all_ones(alloc, form.parts)?;
     let known = Known {
         signature: "",
         own: &own,
@@ -760,7 +763,7 @@ pub fn template_of(
     ensures { IfOk result (λ text. string_bytes text ≡ template_text signature.now file_kind form.now walk) }
 {
     let own = table_own(alloc, file_kind, walk, form)?;
-    let ones = all_sides(alloc, form.parts)?;
+    let ones = all_ones(alloc, form.parts)?;
     let known = Known {
         signature,
         own: &own,

@@ -55,7 +55,7 @@ fn perform_once(rt: &HostRuntime, run: &Run) -> io::Result<Found> {
 }
 
 /// Writes the file of a run, and runs it. If its text has to be made into the file again, and isn't, what is returned is what
-/// `make` did.
+/// `make` did. Without a file its text has to be made into some table.
 pub fn perform(rt: &HostRuntime, run: &Run) -> io::Result<Found> {
     let found = perform_once(rt, run)?;
     if !run.both || found.status != 0 {
@@ -64,7 +64,7 @@ pub fn perform(rt: &HostRuntime, run: &Run) -> io::Result<Found> {
     let text = Vec::from_slice(rt.alloc(), &found.out)?;
     let back = perform_once(rt, &run_of_text(text)?)?;
     match &back.made {
-        Some(bytes) if bytes.as_slice() == run.file.as_slice() => Ok(found),
+        Some(bytes) if run.file.is_empty() || bytes.as_slice() == run.file.as_slice() => Ok(found),
         _ => Ok(back),
     }
 }

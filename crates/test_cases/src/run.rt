@@ -18,7 +18,7 @@ pub struct Run {
     pub words: Vec<String>,
     pub file: Vec<u8>,
     pub status: Option<u8>,
-    /// Whether the text that is printed has to be made into the file again.
+    /// Whether the text that is printed has to be made into the file again, or into some table if there is no file.
     pub both: bool,
 }
 
@@ -46,6 +46,7 @@ fn push_command(words: &mut Vec<String>, command: &str) -> io::Result<()> {
         "objects" => push_both(words, "names", "--json"),
         "dot" => push_both(words, "tree", "--dot"),
         "both" => push(words, "disassemble"),
+        "again" => push(words, "template"),
         _ => push(words, command),
     }
 }
@@ -63,7 +64,7 @@ fn push_file(words: &mut Vec<String>, base: Option<&str>) -> io::Result<()> {
 // Adds the names of the files that a command takes.
 fn push_files(words: &mut Vec<String>, command: &str, base: Option<&str>) -> io::Result<()> {
     match command {
-        "template" | "help" | "-h" | "--help" | "--version" => Ok(()),
+        "template" | "again" | "help" | "-h" | "--help" | "--version" => Ok(()),
         "make" | "repair" => {
             push(words, FILE)?;
             push(words, MADE)
@@ -162,7 +163,7 @@ fn file_of(alloc: Global, mut content: Content, more: &[Line<'_>]) -> io::Result
 pub fn read_run(alloc: Global, first: &[u8], more: &[Line<'_>]) -> io::Result<Run> {
     let (command, after) = split_command(first)?;
     let mut words = Vec::new(alloc);
-    let both = command == "both";
+    let both = command == "both" || command == "again";
     let (command, base) = split_base(command);
     push_command(&mut words, command)?;
     push_files(&mut words, command, base)?;
