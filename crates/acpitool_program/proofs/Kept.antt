@@ -85,9 +85,10 @@ archived_kept folder file o o' o'' e e' s kept (inl (paths, inl all)) = inl (
   paths,
   inl (record {
     tables = all.tables;
+    between = all.between;
     are = all.are;
     written = elim all.written [
-      | inl written ↦ inl (written_kept _ file o o' o'' e e' s kept written)
+      | inl written ↦ inl (written_kept _ file o o' o'' all.between e' s kept written)
       | inr not ↦ inr (record {
         misfit = not.misfit;
         first = not.first;

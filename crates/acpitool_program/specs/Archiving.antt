@@ -1,11 +1,14 @@
 -- The archive of the tables of a folder.
-use Rattle.std.specs.Prelude.{◌≡◌, ◌⊎◌, ℕ, if◌then◌else◌, List, [], ◌∷◌, ◌++◌, Option, Some, map, codes}
+use Rattle.std.specs.Prelude.{◌≡◌, ◌⊎◌, ℕ, Bool, true, false, if◌then◌else◌, List, [], ◌∷◌, ◌++◌, Option, Some, None, map, codes}
+use Rattle.std.specs.Option.{option_to_list}
 use Rattle.std.specs.Io.KnownBytes.{Keeps, Appends}
-use Rattle.acpi_base.specs.Table.{IsTrueTable}
 use Rattle.acpi_cpio.specs.Archive.{file_entry, first_misfit, tables_archive}
+use Rattle.acpi_forms.specs.Kind.{kind_of}
+use Rattle.acpi_make.specs.declared.file_kind.FileKind.{FileKind}
+use Rattle.acpi_make.specs.declared.file_kind.FileKind.TheVariants.{Rsdp, Facs, Cdat, S3pt, Table}
 use Rattle.acpitool_program.specs.Command.{has}
-use Rattle.acpitool_program.specs.Disassembly.{IsNoTable}
 use Rattle.acpitool_program.specs.Fault.{line_of}
+use Rattle.acpitool_program.specs.Headed.{IsHeaded, IsNoTable}
 use Rattle.acpitool_program.specs.Listing.{NotRead}
 use Rattle.acpitool_program.specs.Making.{IsWritten}
 use Rattle.acpitool_program.specs.Replaced.{WouldReplace}
@@ -16,23 +19,56 @@ abbrev pub name_of : List ℕ → List ℕ
 name_of [] = []
 name_of (c ∷ path) = if has 47 (c ∷ path) then name_of path else c ∷ path
 
+-- whether Linux takes no file of a kind from its initrd
+abbrev pub is_left_out : FileKind → Bool
+is_left_out Rsdp = true
+is_left_out Facs = true
+is_left_out Cdat = false
+is_left_out S3pt = false
+is_left_out Table = false
+
+-- the line of such a file
+abbrev pub left_out_line : List ℕ → List ℕ
+left_out_line path = path ++ codes ": note: left out, as Linux takes no RSDP and no FACS from an initrd\n"
+
 -- the bytes of a file of this path are a table with the standard header: its name and its bytes
-pub record IsTableOf (path bytes : List ℕ) (table : List ℕ × List ℕ) : Type 0 where
+pub record IsTableOf (path bytes : List ℕ) (table : List ℕ × List ℕ) (err err' : Option (List ℕ)) : Type 0 where
+  pub taken : is_left_out (kind_of bytes) ≡ false
   pub are : table ≡ (name_of path, bytes)
-  pub is : IsTrueTable bytes
+  pub is : IsHeaded bytes
+  pub silent : Keeps err err'
 
--- a file of this path has these bytes
-abbrev pub IsTableIn : List ℕ → List ℕ × List ℕ → Type 0
-IsTableIn path table = (bytes : List ℕ) × IsTableOf path bytes table
+-- the file is left out, and a line says so
+pub record IsLeftOut (path bytes : List ℕ) (err err' : Option (List ℕ)) : Type 0 where
+  pub left_out : is_left_out (kind_of bytes) ≡ true
+  pub told : Appends err err' (left_out_line path)
 
--- these are the tables of the files
-abbrev pub AreTablesIn : List (List ℕ) → List (List ℕ × List ℕ) → Type 0
-AreTablesIn [] [] = Unit {0}
-AreTablesIn (path ∷ paths) (table ∷ tables) = IsTableIn path table × AreTablesIn paths tables
-AreTablesIn _ _ = ⊥
+abbrev pub HasTable : List ℕ → List ℕ → Option (List ℕ × List ℕ) → Option (List ℕ) → Option (List ℕ) → Type 0
+HasTable path bytes (Some table) err err' = IsTableOf path bytes table err err'
+HasTable path bytes None err err' = IsLeftOut path bytes err err'
+
+-- what comes of a file that has a table or is left out: the system says which bytes it has
+abbrev pub IsRead : List ℕ → Option (List ℕ × List ℕ) → Option (List ℕ) → Option (List ℕ) → Type 0
+IsRead path table err err' = (bytes : List ℕ) × HasTable path bytes table err err'
+
+-- that of a file, and then of further ones
+pub record ReadThen (path : List ℕ) (Rest : List (List ℕ × List ℕ) → Option (List ℕ) → Option (List ℕ) → Type 0)
+    (tables : List (List ℕ × List ℕ)) (err err' : Option (List ℕ)) : Type 0 where
+  pub first : Option (List ℕ × List ℕ)
+  pub rest : List (List ℕ × List ℕ)
+  pub between : Option (List ℕ)
+  pub one : IsRead path first err between
+  pub others : Rest rest between err'
+  pub are : tables ≡ option_to_list first ++ rest
+
+-- these are the tables of the files, and each of the other files has a line
+abbrev pub AreRead : List (List ℕ) → List (List ℕ × List ℕ) → Option (List ℕ) → Option (List ℕ) → Type 0
+AreRead [] tables err err' = (tables ≡ []) × Keeps err err'
+AreRead (path ∷ paths) tables err err' = ReadThen path (AreRead paths) tables err err'
 
 -- the bytes of a file are no table, and a line says why
 pub record HasNoTable (path bytes : List ℕ) (err err' : Option (List ℕ)) (status : ℕ) : Type 0 where
+  pub taken : is_left_out (kind_of bytes) ≡ false
   pub fault : Fault
   pub cause : IsNoTable bytes fault
   pub complained : Appends err err' (path ++ codes ": " ++ line_of fault ++ 10 ∷ [])
@@ -53,9 +89,10 @@ pub record AreRefused (paths : List (List ℕ)) (err err' : Option (List ℕ)) (
   pub tables : List (List ℕ × List ℕ)
   pub path : List ℕ
   pub after : List (List ℕ)
+  pub between : Option (List ℕ)
   pub are : paths ≡ before ++ path ∷ after
-  pub fine : AreTablesIn before tables
-  pub refused : IsRefused path err err' status
+  pub fine : AreRead before tables err between
+  pub refused : IsRefused path between err' status
 
 -- the tables don't fit an archive, and a line says so
 pub record DontFit (tables : List (List ℕ × List ℕ)) (file : List ℕ)
@@ -66,11 +103,13 @@ pub record DontFit (tables : List (List ℕ × List ℕ)) (file : List ℕ)
   pub silent : Keeps out out'
   pub is : status ≡ 1
 
--- the archive of these tables was written to a file, or they don't fit one
+-- the archive of the tables of files was written to a file, or they don't fit one
 pub record AreArchived (paths : List (List ℕ)) (file : List ℕ) (out out' err err' : Option (List ℕ)) (status : ℕ) : Type 0 where
   pub tables : List (List ℕ × List ℕ)
-  pub are : AreTablesIn paths tables
-  pub written : IsWritten (tables_archive tables) file out out' err err' status ⊎ DontFit tables file out out' err err' status
+  pub between : Option (List ℕ)
+  pub are : AreRead paths tables err between
+  pub written :
+      IsWritten (tables_archive tables) file out out' between err' status ⊎ DontFit tables file out out' between err' status
 
 -- what comes of the files of a folder
 abbrev pub ArchivesFiles : List (List ℕ) → List ℕ

@@ -4,20 +4,13 @@ use Rattle.std.specs.Io.KnownBytes.{Keeps, Appends}
 use Rattle.acpi_asl.specs.Block.{has_terms, IsBlockText, IsTextInPart}
 use Rattle.acpi_terms_text.specs.Block.{AreNoTerms}
 use Rattle.acpi_asl.specs.declared.block.BlockText.{BlockText}
-use Rattle.acpi_base.specs.Table.{IsTrueTable}
 use Rattle.acpi_terms_text.specs.Objects.{Callee, AddObjectsIn}
-use Rattle.acpi_make.specs.declared.file_kind.FileKind.TheVariants as kinds
 use Rattle.acpi_term.specs.declared.read_error.ReadError.{ReadError}
 use Rattle.acpi_term.specs.declared.read_error.ReadError.TheVariants.{Memory}
-use Rattle.acpitool_program.specs.Fault.{line_of, Says, IsFaultOf, IsFaultAfter}
+use Rattle.acpitool_program.specs.Fault.{line_of, Says, IsFaultAfter}
+use Rattle.acpitool_program.specs.Headed.{IsNoTable}
 use Rattle.acpitool_program.specs.Listing.{NotRead}
 use Rattle.acpitool_program.specs.declared.fault.Fault.{Fault}
-
--- the bytes are no table, and a fault says why, or memory ran out
-pub record IsNoTable (bytes : List ℕ) (fault : Fault) : Type 0 where
-  pub error : ReadError
-  pub says : IsFaultOf kinds.Table error fault
-  pub cause : error ≢ Memory → ¬ IsTrueTable bytes
 
 -- they are a table with another signature
 pub record IsNoBlock (bytes : List ℕ) (fault : Fault) : Type 0 where

@@ -9,8 +9,8 @@ use Rattle.acpi_layout.specs.declared.located.Located.{Located}
 use Rattle.acpi_tree.specs.Dot.{dot_text}
 use Rattle.acpi_tree.specs.Image.{image_tree, image_dot}
 use Rattle.acpi_tree.specs.Tree.{tree_text}
-use Rattle.acpitool_program.specs.Disassembly.{IsNoTable}
 use Rattle.acpitool_program.specs.Fault.{line_of, Says}
+use Rattle.acpitool_program.specs.Headed.{IsNoTable}
 use Rattle.acpitool_program.specs.Image.{IsFoundImage}
 use Rattle.acpitool_program.specs.Listing.{NotListed, NotRead}
 use Rattle.acpitool_program.specs.Placed.{IsPlaced}

@@ -1,5 +1,6 @@
 pub mod Check
 pub mod Fault
+pub mod Headed
 pub mod Offsets
 pub mod Text
 pub mod Structures

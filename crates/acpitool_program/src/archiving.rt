@@ -1,22 +1,23 @@
 //! The archive from which Linux takes the tables of a folder.
 
-ghost use Rattle.std.specs.Prelude.{false, ◌≡◌, ◌⊎◌, map, string_bytes, IfOk, MatchResult};
-ghost use Rattle.std.specs.Io.KnownBytes.{Keeps};
+ghost use Rattle.std.specs.Prelude.{false, ◌≡◌, ◌⊎◌, ◌++◌, map, string_bytes, IfOk, OnOk, MatchResult};
+ghost use Rattle.std.specs.Io.KnownBytes.{Appends};
+ghost use Rattle.std.specs.Option.{option_map, option_to_list};
 ghost use Rattle.acpi_cpio.specs.Archive.{named, tables_archive};
-ghost use Rattle.acpitool_program.specs.Archiving.{name_of, IsTableOf, IsTableIn, AreTablesIn, HasNoTable};
+ghost use Rattle.acpitool_program.specs.Archiving.{name_of, is_left_out, left_out_line, HasTable, HasNoTable, IsRead, AreRead};
 ghost use Rattle.acpitool_program.specs.Archiving.{IsRefused, AreRefused, DontFit, ArchivesFiles, Archives};
 ghost use Rattle.acpitool_program.specs.Making.{IsWritten};
 ghost use Rattle.acpitool_program.specs.Replaced.{is_path_among};
 
 use crate::complaint::complain;
-use crate::fault::Fault;
 use crate::files::{files_in, is_among, read_file};
+use crate::headed::headed;
 use crate::making::write_table;
 use crate::outcome::{tell_replaced, tell_unread};
 use acpi_cpio::archive::{ArchivedFile, tables_archive};
 use acpi_cpio::fault::CpioFault;
+use acpi_forms::kind::kind_of;
 use acpi_make::file_kind::FileKind;
-use acpi_read::table::Table;
 use std::alloc::{AllocError, Global};
 use std::io;
 use std::io::Write;
@@ -43,33 +44,58 @@ fn archived(alloc: Global, path: &str, bytes: Vec<u8>) -> Result<ArchivedFile, A
     })
 }
 
-// Returns the table of a file that was read, or prints why it is none, and returns the status.
+// Returns whether Linux takes no file of a kind from its initrd.
+fn is_left_out(kind: FileKind) -> bool
+    ensures { result ≡ is_left_out kind }
+{
+    match kind {
+        FileKind::Rsdp | FileKind::Facs => true,
+        FileKind::Table | FileKind::Cdat | FileKind::S3pt => false,
+    }
+}
+
+// Prints that a file is left out.
+fn tell_left_out<E: Write>(path: &str, err: &mut E) -> io::Result<()>
+    ensures { OnOk result (Appends (E.contents err.old) (E.contents err.new) (left_out_line path.now)) }
+{
+    writeln!(
+        err,
+        "{path}: note: left out, as Linux takes no RSDP and no FACS from an initrd"
+    )
+}
+
+// Returns the table of a file that was read, or prints that the file is left out. Or prints why it is no table, and returns the
+// status.
 fn table_of<E: Write>(
     alloc: Global,
     path: &str,
     bytes: Vec<u8>,
     err: &mut E,
-) -> io::Result<Result<ArchivedFile, u8>>
+) -> io::Result<Result<Option<ArchivedFile>, u8>>
     ensures { IfOk result (λ table. MatchResult table
-        (λ table. IsTableOf path.now bytes.items (named table) × Keeps (E.contents err.old) (E.contents err.new))
+        (λ table. HasTable path.now bytes.items (option_map named table) (E.contents err.old) (E.contents err.new))
         (λ status. HasNoTable path.now bytes.items (E.contents err.old) (E.contents err.new) status)) }
 {
-    if let Err(error) = Table::check(&bytes) {
-        complain(alloc, path, &Fault::of(FileKind::Table, error), err)?;
+    if is_left_out(kind_of(&bytes)) {
+        tell_left_out(path, err)?;
+        return Ok(Ok(None));
+    }
+    if let Err(fault) = headed(&bytes) {
+        complain(alloc, path, &fault, err)?;
         return Ok(Err(1));
     }
-    Ok(Ok(archived(alloc, path, bytes)?))
+    Ok(Ok(Some(archived(alloc, path, bytes)?)))
 }
 
-// Returns the table in a file, or prints why there is none, and returns the status.
+// Returns the table in a file, if it isn't left out, or prints why there is none, and returns the status.
 fn read_table<R: Files, E: Write>(
     rt: &R,
     alloc: Global,
     path: &str,
     err: &mut E,
-) -> io::Result<Result<ArchivedFile, u8>>
+) -> io::Result<Result<Option<ArchivedFile>, u8>>
     ensures { IfOk result (λ table. MatchResult table
-        (λ table. IsTableIn path.now (named table) × Keeps (E.contents err.old) (E.contents err.new))
+        (λ table. IsRead path.now (option_map named table) (E.contents err.old) (E.contents err.new))
         (λ status. IsRefused path.now (E.contents err.old) (E.contents err.new) status)) }
 {
     match read_file(rt, alloc, path) {
@@ -78,7 +104,18 @@ fn read_table<R: Files, E: Write>(
     }
 }
 
-// Returns the tables in files, or prints why the first that isn't one is none, and returns the status.
+// Adds a table, if there is one.
+fn push_table(table: Option<ArchivedFile>, tables: &mut Vec<ArchivedFile>) -> Result<(), AllocError>
+    ensures { OnOk result (tables.new.items ≡ tables.old.items ++ option_to_list table) }
+{
+    if let Some(table) = table {
+        tables.push(table)?;
+    }
+    Ok(())
+}
+
+// Returns the tables in files, and prints which are left out. Or prints why the first that isn't a table is none, and returns the
+// status.
 fn read_tables<R: Files, E: Write>(
     rt: &R,
     alloc: Global,
@@ -86,14 +123,14 @@ fn read_tables<R: Files, E: Write>(
     err: &mut E,
 ) -> io::Result<Result<Vec<ArchivedFile>, u8>>
     ensures { IfOk result (λ all. MatchResult all
-        (λ tables. AreTablesIn (map (λ path. string_bytes path) paths.now) (map named tables.items)
-        × Keeps (E.contents err.old) (E.contents err.new))
+        (λ tables. AreRead (map (λ path. string_bytes path) paths.now) (map named tables.items)
+        (E.contents err.old) (E.contents err.new))
         (λ status. AreRefused (map (λ path. string_bytes path) paths.now) (E.contents err.old) (E.contents err.new) status)) }
 {
     let mut tables = Vec::new(alloc);
     'paths: for path in paths {
         match read_table(rt, alloc, path.as_str(), err)? {
-            Ok(table) => tables.push(table)?,
+            Ok(table) => push_table(table, &mut tables)?,
             Err(status) => return Ok(Err(status)),
         }
     }
@@ -149,9 +186,10 @@ fn archive_files<R: Files, O: Write, E: Write>(
 }
 
 /// Writes the archive from which Linux takes the tables of a folder, in the order of their names, to a file, or to standard
-/// output if it is `-`. Each file of the folder has to be a table with the standard header: a line on `err` names the first
-/// that isn't one, and no archive is written. The status is 1 then, or if the archive would replace one of the files or can't be
-/// written, and 2 if a file or the folder can't be read.
+/// output if it is `-`. Linux takes no RSDP and no FACS: a line on `err` names each file that is one by its signature, and it is
+/// left out. Each other file of the folder has to be a table with the standard header: a line on `err` names the first that isn't
+/// one, and no archive is written. The status is 1 then, or if the archive would replace one of the files or can't be written,
+/// and 2 if a file or the folder can't be read.
 pub fn archive_folder<R: Files + AllocGlobal + Clone + Drop, O: Write, E: Write>(
     rt: &R,
     alloc: Global,

@@ -13,11 +13,10 @@ use crate::complaint::complain;
 use crate::fault::Fault;
 use crate::files::read_word;
 use crate::further::add_block;
+use crate::headed::headed;
 use crate::help::tell_wrong;
 use crate::outcome::tell_unread;
 use acpi_asl::block::{BODY, BlockText, has_terms, text_in_part, text_of_block};
-use acpi_make::file_kind::FileKind;
-use acpi_read::table::Table;
 use acpi_term::name_string::Arities;
 use acpi_term::read_error::ReadError;
 use acpi_terms_text::objects::Object;
@@ -38,9 +37,7 @@ fn check_block(bytes: &[u8]) -> Result<(), Fault>
     ensures long { OnOk result (36 ≤ length bytes.now) }
     ensures err { IfErr result (IsNoText bytes.now) }
 {
-    if let Err(error) = Table::check(bytes) {
-        return Err(Fault::of(FileKind::Table, error));
-    }
+    headed(bytes)?;
     if !has_terms(bytes) {
         return Err(NO_BLOCK);
     }

@@ -7,6 +7,7 @@ ghost use Rattle.acpitool_program.specs.Drawing.{image_drawn, DrawsImageBytes, D
 use crate::complaint::complain;
 use crate::fault::Fault;
 use crate::files::read_word;
+use crate::headed::headed;
 use crate::image::find_tables;
 use crate::listing::tell_no_image;
 use crate::outcome::tell_unread;
@@ -14,9 +15,7 @@ use crate::placed::{Placed, image_in};
 use acpi_base::further_walk::table_walk_of;
 use acpi_base::walk::Walk;
 use acpi_layout::located::Located;
-use acpi_make::file_kind::FileKind;
 use acpi_read::pieces::signature_number;
-use acpi_read::table::Table;
 use acpi_tree::dot::dot_of;
 use acpi_tree::image::{image_dot_of, image_tree_of};
 use acpi_tree::tree::tree_of;
@@ -36,12 +35,10 @@ fn walk_in(bytes: &[u8]) -> Result<Walk, Fault>
     ensures ok { IfOk result (HasWalk bytes.now) }
     ensures err { IfErr result (IsUndrawn bytes.now) }
 {
-    match Table::check(bytes) {
-        Ok(table) => match table_walk_of(signature_number(&table)) {
-            Some(walk) => Ok(walk),
-            None => Err(NO_STRUCTURES),
-        },
-        Err(error) => Err(Fault::of(FileKind::Table, error)),
+    let table = headed(bytes)?;
+    match table_walk_of(signature_number(&table)) {
+        Some(walk) => Ok(walk),
+        None => Err(NO_STRUCTURES),
     }
 }
 

@@ -15,6 +15,7 @@ pub mod drawing;
 pub mod fault;
 pub mod files;
 pub mod further;
+pub mod headed;
 pub mod help;
 pub mod hint;
 pub mod image;

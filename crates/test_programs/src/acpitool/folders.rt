@@ -66,28 +66,56 @@ const PARTS: [&[u8]; 11] = [
     b"TRAILER!!!\0\0\0\0",
 ];
 
+// Fails unless a file is the archive of a folder with one table.
+fn has_archive(rt: &HostRuntime, file: &str) -> Result<(), Fail> {
+    let mut wanted = Vec::new(rt.alloc());
+    for part in &PARTS {
+        wanted.extend_from_slice(*part)?;
+    }
+    wanted.resize(1024, 0)?;
+    same(&fs::read(rt, file)?, &wanted)
+}
+
 // The archive of a folder with one table.
 #[test]
 fn archived(rt: HostRuntime) -> Result<(), Fail> {
     fs::create_dir(&rt, "archived")?;
     write(&rt, "archived/OEMX.aml", &TABLE)?;
     ends(&rt, &["cpio", "archived", "archive"], 0, &[], &[])?;
-    let mut wanted = Vec::new(rt.alloc());
-    for part in &PARTS {
-        wanted.extend_from_slice(*part)?;
-    }
-    wanted.resize(1024, 0)?;
-    same(&fs::read(&rt, "archive")?, &wanted)
+    has_archive(&rt, "archive")
 }
 
-// A file that is no table is named, and no archive is written.
+// A FACS and an RSDP aren't in the archive. Each has a line.
+#[test]
+fn left_out(rt: HostRuntime) -> Result<(), Fail> {
+    fs::create_dir(&rt, "taken")?;
+    write(&rt, "taken/FACS.aml", b"FACS")?;
+    write(&rt, "taken/OEMX.aml", &TABLE)?;
+    write(&rt, "taken/RSDP.aml", b"RSD PTR ")?;
+    let lines = [
+        "taken/FACS.aml: note: left out, as Linux takes no RSDP and no FACS from an initrd\n",
+        "taken/RSDP.aml: note: left out, as Linux takes no RSDP and no FACS from an initrd\n",
+    ];
+    ends(&rt, &["cpio", "taken", "some"], 0, &[], &lines)?;
+    has_archive(&rt, "some")
+}
+
+// A file that is no table is named, after those that are left out, and no archive is written.
 #[test]
 fn not_archived(rt: HostRuntime) -> Result<(), Fail> {
     fs::create_dir(&rt, "mixed")?;
+    write(&rt, "mixed/FACS.aml", b"FACS")?;
     write(&rt, "mixed/OEMX.aml", &TABLE)?;
     write(&rt, "mixed/short", &TABLE[..9])?;
     write(&rt, "old_archive", b"kept")?;
-    let line = "mixed/short: at 9: a table has at least the 36 bytes of the standard header\n";
-    ends(&rt, &["cpio", "mixed", "old_archive"], 1, &[], &[line])?;
-    same(&fs::read(&rt, "old_archive")?, b"kept")
+    let lines = [
+        "mixed/FACS.aml: note: left out, as Linux takes no RSDP and no FACS from an initrd\n",
+        "mixed/short: at 9: a table has at least the 36 bytes of the standard header\n",
+    ];
+    ends(&rt, &["cpio", "mixed", "old_archive"], 1, &[], &lines)?;
+    same(&fs::read(&rt, "old_archive")?, b"kept")?;
+    fs::create_dir(&rt, "headless")?;
+    write(&rt, "headless/S3PT.aml", b"S3PT\x08\0\0\0")?;
+    let line = "headless/S3PT.aml: at 0: an S3PT has no standard header\n";
+    ends(&rt, &["cpio", "headless", "old_archive"], 1, &[], &[line])
 }

@@ -1,21 +1,16 @@
 use Rattle.std.proofs.Common.{List, ℕ, String, Global, string_bytes}
 use Rattle.acpi_cpio.specs.Archive.{named}
-use Rattle.acpitool_program.proofs.Archives.{table_then, refused_here}
-use Rattle.acpitool_program.proofs.Streams.{keeps_kept}
+use Rattle.acpitool_program.proofs.Archives.{file_then, refused_here}
 use Rattle.acpitool_program.proofs.archiving.read_tables.Goals as goal
 
 pub returns-in-Err : goal.returns-in-Err
 returns-in-Err g c =
     let text : String Global → List ℕ = λ path. string_bytes path in
     refused_here text named c.args.paths.now c.paths.path-index c.path-item.result c.paths-test.true c.path-item.is c.paths.tables.items _ _ _ _
-    c.paths.invariant.are c.paths.invariant.kept (rw (c.in-Err.is, c.as_str.ensures.value) at c.in_ok-table.ensures)
+    c.paths.invariant (rw (c.in-Err.is, c.as_str.ensures.value) at c.in_ok-table.ensures)
 
 pub paths-preserved : goal.paths-preserved
 paths-preserved g c =
     let text : String Global → List ℕ = λ path. string_bytes path in
-    let this = rw (c.in-Ok.is, c.as_str.ensures.value) at c.in_ok-table.ensures in
-    record {
-      are = table_then text named c.args.paths.now c.paths.path-index c.path-item.result c.paths-test.true c.path-item.is c.paths.tables.items _
-          c.in-Ok.table c.in_ok-push-in-Ok.ensures.items c.paths.invariant.are this.0;
-      kept = keeps_kept _ _ _ c.paths.invariant.kept this.1;
-    }
+    file_then text named c.args.paths.now c.paths.path-index c.path-item.result c.paths-test.true c.path-item.is c.paths.tables.items _
+    c.in-Ok.table _ _ _ c.in_ok-push_table-in-Ok.ensures c.paths.invariant (rw (c.in-Ok.is, c.as_str.ensures.value) at c.in_ok-table.ensures)
