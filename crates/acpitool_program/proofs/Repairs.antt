@@ -11,13 +11,13 @@ use Rattle.acpi_base.specs.Table.{IsTrueTable}
 use Rattle.acpi_base.proofs.Bytes.{carried_le, length_le}
 use Rattle.acpi_base.proofs.Puts.{length-put, put-append, sum-put, take-put}
 use Rattle.acpitool_program.specs.Text.{IsKind}
-use Rattle.acpitool_program.specs.Repair.{misfit, misfit_as, seals_as, least, with_length, with_sum, set_seal, set_seals, needs, need, is_short_pointer}
+use Rattle.acpitool_program.specs.Repair.{misfit, misfit_as, is_signed, seals_as, least, with_length, with_sum, set_seal, set_seals, needs, need, is_short_pointer}
 use Rattle.acpitool_program.specs.Check.{IsPointer, IsControl, IsCoherent, IsPerformance}
 use Rattle.acpi_make.specs.declared.file_kind.FileKind.{FileKind}
 use Rattle.acpi_make.specs.declared.file_kind.FileKind.TheVariants.{Rsdp, Facs, Cdat, S3pt, Table}
 use Rattle.acpitool_program.specs.declared.repair.Seal.{Seal}
 use Rattle.acpitool_program.specs.declared.repair.Unfit.{Unfit}
-use Rattle.acpitool_program.specs.declared.repair.Unfit.TheVariants.{Dump, Short, Long}
+use Rattle.acpitool_program.specs.declared.repair.Unfit.TheVariants.{Dump, Short, Long, NoSignature}
 use Rattle.acpitool_program.specs.declared.repair.Seal.TheVariants.{Length, Checksum, FrontChecksum}
 
 -- ---- bytes that were written
@@ -223,11 +223,11 @@ length_kept (FrontChecksum at) x h = sum_length at 20 x (omega arith)
 
 -- ---- bytes that fit
 
-fit_by : (n m : ℕ) (u v : Unfit) (few many : Bool) → nat_lt n m ≡ few → nat_lt 0xffffffff n ≡ many
-    → cond few (Some u) (cond many (Some v) None) ≡ None → (m ≤ n) × (n < 2 ^ 32)
-fit_by n m u v true many is_few is_many e = absurd (cc)
-fit_by n m u v false true is_few is_many e = absurd (cc)
-fit_by n m u v false false is_few is_many e = (grind (arith, nat_tests, is_few), grind (arith, nat_tests, is_many))
+fit_by : (n m : ℕ) (u v w : Unfit) (few many signed : Bool) → nat_lt n m ≡ few → nat_lt 0xffffffff n ≡ many
+    → cond few (Some u) (cond many (Some v) (cond signed None (Some w))) ≡ None → (m ≤ n) × (n < 2 ^ 32)
+fit_by n m u v w true many signed is_few is_many e = absurd (cc)
+fit_by n m u v w false true signed is_few is_many e = absurd (cc)
+fit_by n m u v w false false signed is_few is_many e = (grind (arith, nat_tests, is_few), grind (arith, nat_tests, is_many))
 
 -- they are enough, and not more than a length can say
 pub fits : (x : List ℕ) → misfit x ≡ None → (least (kind_of x) x ≤ length x) × (length x < 2 ^ 32)
@@ -236,5 +236,5 @@ fits x is = by (is_dump x) is
     by : (dump : Bool) → cond dump (Some Dump) (misfit_as (kind_of x) x) ≡ None → (least (kind_of x) x ≤ length x) × (length x < 2 ^ 32)
     by true e = absurd (cc)
     by false e =
-        fit_by (length x) (least (kind_of x) x) (Short (least (kind_of x) x)) Long (nat_lt (length x) (least (kind_of x) x))
-        (nat_lt 0xffffffff (length x)) refl refl e
+        fit_by (length x) (least (kind_of x) x) (Short (least (kind_of x) x)) Long NoSignature (nat_lt (length x) (least (kind_of x) x))
+        (nat_lt 0xffffffff (length x)) (is_signed (kind_of x) x) refl refl e

@@ -1,6 +1,8 @@
 -- A table with the length and the checksums that its bytes should have.
-use Rattle.std.specs.Prelude.{ℕ, ◌+◌, max, ◌==◌, ◌&&◌, nat_lt, Bool, if◌then◌else◌, List, [], ◌∷◌, ◌++◌, Option, Some, None}
-use Rattle.std.specs.Prelude.{length, sum, take, slice_index, codes}
+use Rattle.std.specs.Prelude.{ℕ, ◌+◌, max, ◌==◌, ◌&&◌, ◌||◌, nat_lt, nat_le, nat_eq, Bool, true, if◌then◌else◌}
+use Rattle.std.specs.Prelude.{List, [], ◌∷◌, ◌++◌, Option, Some, None, length, sum, take, slice_index, codes}
+use Rattle.std.specs.Char.{is_ascii_uppercase, is_ascii_digit}
+use Rattle.std.specs.List.{starts_with}
 use Rattle.std.specs.Fmt.{decimal}
 use Rattle.acpi_base.specs.Bytes.{le, put, complement}
 use Rattle.acpi_dump.specs.Dump.{is_dump}
@@ -10,7 +12,7 @@ use Rattle.acpi_make.specs.declared.file_kind.FileKind.TheVariants.{Rsdp, Facs, 
 use Rattle.acpitool_program.specs.declared.repair.Seal.{Seal}
 use Rattle.acpitool_program.specs.declared.repair.Seal.TheVariants.{Length, Checksum, FrontChecksum}
 use Rattle.acpitool_program.specs.declared.repair.Unfit.{Unfit}
-use Rattle.acpitool_program.specs.declared.repair.Unfit.TheVariants.{Dump, Short, Long}
+use Rattle.acpitool_program.specs.declared.repair.Unfit.TheVariants.{Dump, Short, Long, NoSignature}
 
 -- ---- the fields of each kind
 
@@ -38,11 +40,40 @@ least Cdat bytes = 16
 
 -- ---- bytes that are no table whatever these fields have
 
--- bytes of a kind are too few, or more than a length can say
+-- whether a byte may stand in a signature: a capital letter, a digit or an underscore
+abbrev pub is_signature_character : ℕ → Bool
+is_signature_character c = is_ascii_uppercase c || is_ascii_digit c || c == 95
+
+-- whether bytes begin with four of these
+abbrev pub begins_characters : List ℕ → Bool
+begins_characters bytes =
+    nat_le 4 (length bytes)
+    && is_signature_character (slice_index bytes 0)
+    && is_signature_character (slice_index bytes 1)
+    && is_signature_character (slice_index bytes 2)
+    && is_signature_character (slice_index bytes 3)
+
+-- Whether bytes begin with a signature (ACPI 6.5, 5.2.6). Two of the known ones have another character: those of the Alert
+-- Standard Format Table and of the iSCSI Boot Firmware Table.
+abbrev pub begins_signature : List ℕ → Bool
+begins_signature bytes =
+    begins_characters bytes || starts_with nat_eq bytes (codes "ASF!") || starts_with nat_eq bytes (codes "iBFT")
+
+-- whether bytes of a kind have a signature, or need none: those of the other kinds are known by theirs, or by other fields
+abbrev pub is_signed : FileKind → List ℕ → Bool
+is_signed Table bytes = begins_signature bytes
+is_signed Rsdp bytes = true
+is_signed Facs bytes = true
+is_signed S3pt bytes = true
+is_signed Cdat bytes = true
+
+-- bytes of a kind are too few, or more than a length can say, or have no signature
 abbrev pub misfit_as : FileKind → List ℕ → Option Unfit
 misfit_as kind bytes =
     if nat_lt (length bytes) (least kind bytes) then Some (Short (least kind bytes))
-    else (if nat_lt 0xffffffff (length bytes) then Some Long else None)
+    else (if nat_lt 0xffffffff (length bytes) then Some Long
+    else (if is_signed kind bytes then None
+    else Some NoSignature))
 
 abbrev pub misfit : List ℕ → Option Unfit
 misfit bytes = if is_dump bytes then Some Dump else misfit_as (kind_of bytes) bytes
@@ -51,6 +82,7 @@ abbrev pub why_unfit : Unfit → List ℕ
 why_unfit Dump = codes "a dump of tables, which unpack writes one by one"
 why_unfit (Short least) = codes "fewer than " ++ decimal least ++ codes " bytes"
 why_unfit Long = codes "4294967296 bytes or more"
+why_unfit NoSignature = codes "the first four bytes are no signature of a table"
 
 -- ---- setting them
 

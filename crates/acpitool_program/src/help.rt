@@ -74,8 +74,8 @@ says which word of the text would be another.
 
 repair writes the table in FILE to OUT with the length and the checksums that it should have, as after a change with an
 editor of bytes; all other bytes stay as they are. The length is the number of bytes in FILE. A line says what each of them
-was, if it was wrong. As FILE, - is standard input, and as OUT, standard output. OUT is replaced as make does it, and may be
-FILE.
+was, if it was wrong. FILE has to begin with a signature, or to be a CDAT. As FILE, - is standard input, and as OUT, standard
+output. OUT is replaced as make does it, and may be FILE.
 
 template prints such a text of a table: all fields, mostly with zeros, and one structure of each kind. It knows
 the signatures that show knows by name, such as APIC, the MADT's. That of the RSDP is 'RSD '.

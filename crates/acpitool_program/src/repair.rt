@@ -3,6 +3,7 @@
 ghost use Rattle.std.specs.Prelude.{◌≡◌, ◌+◌, ◌<◌, ◌≤◌, ◌^◌, length, Some, IfOk, MatchResult};
 ghost use Rattle.acpi_forms.specs.Kind.{kind_of};
 ghost use Rattle.acpitool_program.specs.Repair.{is_short_pointer, seals_as, least, with_length, with_sum, set_seal, set_seals};
+ghost use Rattle.acpitool_program.specs.Repair.{is_signature_character, begins_characters, begins_signature, is_signed};
 ghost use Rattle.acpitool_program.specs.Repair.{needs, need, misfit, misfit_as, why_unfit, repaired};
 ghost use Rattle.acpitool_program.specs.Text.{IsKind};
 
@@ -34,6 +35,8 @@ pub enum Unfit {
     Short(usize),
     /// They are 2^32 or more, which no length can say.
     Long,
+    /// They begin with no signature.
+    NoSignature,
 }
 
 impl fmt::Display for Unfit {
@@ -44,6 +47,7 @@ impl fmt::Display for Unfit {
             Unfit::Dump => write!(f, "a dump of tables, which unpack writes one by one"),
             Unfit::Short(least) => write!(f, "fewer than {least} bytes"),
             Unfit::Long => write!(f, "4294967296 bytes or more"),
+            Unfit::NoSignature => write!(f, "the first four bytes are no signature of a table"),
         }
     }
 }
@@ -82,7 +86,42 @@ fn least(kind: FileKind, bytes: &[u8]) -> usize
     }
 }
 
-// Returns why bytes of a kind are too few or too many.
+// Returns whether a byte may stand in a signature: a capital letter, a digit or an underscore.
+fn is_signature_character(byte: u8) -> bool
+    ensures { result ≡ is_signature_character byte }
+{
+    byte.is_ascii_uppercase() || byte.is_ascii_digit() || byte == b'_'
+}
+
+// Returns whether bytes begin with four of these.
+fn begins_characters(bytes: &[u8]) -> bool
+    ensures { result ≡ begins_characters bytes.now }
+{
+    bytes.len() >= 4
+        && is_signature_character(bytes[0])
+        && is_signature_character(bytes[1])
+        && is_signature_character(bytes[2])
+        && is_signature_character(bytes[3])
+}
+
+// Returns whether bytes begin with a signature.
+fn begins_signature(bytes: &[u8]) -> bool
+    ensures { result ≡ begins_signature bytes.now }
+{
+    begins_characters(bytes) || bytes.starts_with(b"ASF!") || bytes.starts_with(b"iBFT")
+}
+
+// Returns whether bytes of a kind have a signature, or need none.
+fn is_signed(kind: FileKind, bytes: &[u8]) -> bool
+    ensures { result ≡ is_signed kind bytes.now }
+{
+    match kind {
+        FileKind::Table => begins_signature(bytes),
+        FileKind::Rsdp | FileKind::Facs | FileKind::S3pt | FileKind::Cdat => true,
+    }
+}
+
+// Returns why bytes of a kind are no table whatever their length and checksums are.
 fn misfit_as(kind: FileKind, bytes: &[u8]) -> Option<Unfit>
     ensures { result ≡ misfit_as kind bytes.now }
 {
@@ -91,6 +130,8 @@ fn misfit_as(kind: FileKind, bytes: &[u8]) -> Option<Unfit>
         Some(Unfit::Short(least))
     } else if bytes.len() > 0xffff_ffff {
         Some(Unfit::Long)
+    } else if !is_signed(kind, bytes) {
+        Some(Unfit::NoSignature)
     } else {
         None
     }

@@ -14,8 +14,8 @@
 //!   --json`, `bare` for `show --no-offsets`, `bytes` for `show --bytes`, `findings` for `check --json`, `listing` for `image
 //!   --json`, `objects` for `names --json`, and `dot` for `tree --dot`. `both` is `disassemble`, and `make` has to make its text
 //!   into the file again. `again` is `template`, and `make` has to make its text into a table without a note. `check@1c000000` is
-//!   given the file as FILE@1c000000. `structures` is a command of this program: it prints a table's first line and its structures,
-//!   also those of tables with a further walk, which `acpiread table` doesn't list.
+//!   given the file as FILE@1c000000. `structures` is a command of this program: it prints a table's first line and its
+//!   structures, also those of tables with a further walk, which `acpiread table` doesn't list.
 //! - Bytes are hexadecimal in lower case, or text in quotation marks. `00*16` is 16 of them, and so it is with a text.
 //!   `<APIC 1>` is the standard header with this signature and this revision, and with the length and the checksum of all bytes.
 //!   Its other fields are those of `test_support`. `@9=07` sets the byte at offset 9 after that.
