@@ -46,8 +46,10 @@ pub fn constant(node: &Node<'_>) -> Option<Term> {
         b"Zero" => Some(Term::Number { value: 0, width: 0 }),
         b"One" => Some(Term::Number { value: 1, width: 0 }),
         b"Ones" => Some(Term::Ones),
-        [b'L', b'o', b'c', b'a', b'l', n] if n.is_ascii_digit() => Some(Term::Local(*n - b'0')),
-        [b'A', b'r', b'g', n] if n.is_ascii_digit() => Some(Term::Arg(*n - b'0')),
+        [b'L', b'o', b'c', b'a', b'l', n] if (b'0'..=b'7').contains(n) => {
+            Some(Term::Local(*n - b'0'))
+        }
+        [b'A', b'r', b'g', n] if (b'0'..=b'6').contains(n) => Some(Term::Arg(*n - b'0')),
         _ => None,
     }
 }
