@@ -18,9 +18,9 @@ abbrev pub standard_tables : List (List ℕ)
 standard_tables =
     codes "APIC" ∷ codes "BERT" ∷ codes "BGRT" ∷ codes "CCEL" ∷ codes "CPEP" ∷ codes "DSDT" ∷ codes "ECDT" ∷ codes "EINJ"
     ∷ codes "ERST" ∷ codes "FACP" ∷ codes "FACS" ∷ codes "FPDT" ∷ codes "GTDT" ∷ codes "HEST" ∷ codes "HMAT" ∷ codes "MPST"
-    ∷ codes "MSCT" ∷ codes "NFIT" ∷ codes "PCCT" ∷ codes "PDTT" ∷ codes "PHAT" ∷ codes "PMTT" ∷ codes "PPTT" ∷ codes "RAS2"
-    ∷ codes "RASF" ∷ codes "RSD " ∷ codes "RSDT" ∷ codes "SBST" ∷ codes "SDEV" ∷ codes "SLIT" ∷ codes "SRAT" ∷ codes "SSDT"
-    ∷ codes "SVKL" ∷ codes "XSDT"
+    ∷ codes "MSCT" ∷ codes "NFIT" ∷ codes "PCCT" ∷ codes "PDTT" ∷ codes "PHAT" ∷ codes "PMTT" ∷ codes "PPTT" ∷ codes "PSDT"
+    ∷ codes "RAS2" ∷ codes "RASF" ∷ codes "RSD " ∷ codes "RSDT" ∷ codes "S3PT" ∷ codes "SBST" ∷ codes "SDEV" ∷ codes "SLIT"
+    ∷ codes "SRAT" ∷ codes "SSDT" ∷ codes "SVKL" ∷ codes "VIOT" ∷ codes "XSDT"
     ∷ []
 
 abbrev pub contains : List (List ℕ) → List ℕ → Bool

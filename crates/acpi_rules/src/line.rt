@@ -16,12 +16,12 @@ use std::alloc::AllocError;
 
 // The tables that ACPI 6.5 defines.
 #[rattlefmt::skip]
-const STANDARD: [[u8; 4]; 34] = [
+const STANDARD: [[u8; 4]; 37] = [
     *b"APIC", *b"BERT", *b"BGRT", *b"CCEL", *b"CPEP", *b"DSDT", *b"ECDT", *b"EINJ",
     *b"ERST", *b"FACP", *b"FACS", *b"FPDT", *b"GTDT", *b"HEST", *b"HMAT", *b"MPST",
-    *b"MSCT", *b"NFIT", *b"PCCT", *b"PDTT", *b"PHAT", *b"PMTT", *b"PPTT", *b"RAS2",
-    *b"RASF", *b"RSD ", *b"RSDT", *b"SBST", *b"SDEV", *b"SLIT", *b"SRAT", *b"SSDT",
-    *b"SVKL", *b"XSDT",
+    *b"MSCT", *b"NFIT", *b"PCCT", *b"PDTT", *b"PHAT", *b"PMTT", *b"PPTT", *b"PSDT",
+    *b"RAS2", *b"RASF", *b"RSD ", *b"RSDT", *b"S3PT", *b"SBST", *b"SDEV", *b"SLIT",
+    *b"SRAT", *b"SSDT", *b"SVKL", *b"VIOT", *b"XSDT",
 ];
 
 // Returns whether a signature is one of these.
