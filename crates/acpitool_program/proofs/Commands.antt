@@ -3,7 +3,7 @@ use Rattle.std.proofs.Common.{◌≡◌, ◌⊎◌, ℕ, Bool, true, false, map,
 use Rattle.std.proofs.lemmas.List.{length-map}
 use Rattle.acpitool_program.proofs.Rests.{same_addresses, same_rest}
 use Rattle.acpitool_program.proofs.Verbs.{heads, tails, same_verb, no_version, no_help, asks_no_help}
-use Rattle.acpitool_program.specs.Command.{begins_with_json, style_of, begins_with_dot, after_option, files_in, forces, unforced, AreImage, AreUnpack, AreLay, IsRest, AreAfter, IsHelp, BeginsWithHelp, AsksForHelp, Asks}
+use Rattle.acpitool_program.specs.Command.{begins_with, style_of, after_option, files_in, forces, unforced, AreImage, AreUnpack, AreLay, IsRest, AreAfter, IsHelp, BeginsWithHelp, AsksForHelp, Asks}
 use Rattle.acpitool_program.specs.Laws.{Content, option_if, style_option, rsdp_if, content, AskForOne}
 use Rattle.acpitool_program.specs.declared.command.Command.{Command}
 use Rattle.acpitool_program.specs.declared.command.Command.TheVariants.{Help, Version, Show, Check, Image, Make, Template}
@@ -38,15 +38,15 @@ same_images m n file other base from same (inr x) (inr y) =
 
 abbrev IsOf : Verb → List (List ℕ) → Content → Type 0
 IsOf verbs.Show more k =
-    ((begins_with_json more ≡ false) × (files : List (List ℕ)) × (numbers : List (List ℕ))
+    ((begins_with (codes "--json") more ≡ false) × (files : List (List ℕ)) × (numbers : List (List ℕ))
     × (after_option verbs.Show more ≡ files ++ numbers) × (length files ≡ files_in (after_option verbs.Show more))
     × (k ≡ (codes "show", files, numbers, 0, style_option (style_of more))))
-    ⊎ ((begins_with_json more ≡ true) × (k ≡ (codes "show", after_option verbs.Show more, [], 0, codes "--json")))
+    ⊎ ((begins_with (codes "--json") more ≡ true) × (k ≡ (codes "show", after_option verbs.Show more, [], 0, codes "--json")))
 IsOf verbs.Check more k =
-    k ≡ (codes "check", after_option verbs.Check more, [], 0, option_if (begins_with_json more) (codes "--json"))
+    k ≡ (codes "check", after_option verbs.Check more, [], 0, option_if (begins_with (codes "--json") more) (codes "--json"))
 IsOf verbs.Image more k =
     (file : List ℕ) × (base : ℕ) × AreImage (after_option verbs.Image more) file base
-    × (k ≡ (codes "image", file ∷ [], [], base, option_if (begins_with_json more) (codes "--json")))
+    × (k ≡ (codes "image", file ∷ [], [], base, option_if (begins_with (codes "--json") more) (codes "--json")))
 IsOf verbs.Make more k =
     (text : List ℕ) × (file : List ℕ) × (unforced more ≡ text ∷ file ∷ []) × (k ≡ (codes "make", text ∷ file ∷ [], [], 0, option_if (forces more) (codes "--force")))
 IsOf verbs.Template more k = (signature : List ℕ) × (more ≡ signature ∷ []) × (k ≡ (codes "template", signature ∷ [], [], 0, []))
@@ -54,7 +54,7 @@ IsOf verbs.Disassemble more k =
     (file : List ℕ) × (numbers : List (List ℕ)) × (more ≡ file ∷ numbers) × (k ≡ (codes "disassemble", file ∷ [], numbers, 0, []))
 IsOf verbs.Names more k =
     (file : List ℕ) × (numbers : List (List ℕ)) × (after_option verbs.Names more ≡ file ∷ numbers)
-    × (k ≡ (codes "names", file ∷ [], numbers, 0, option_if (begins_with_json more) (codes "--json")))
+    × (k ≡ (codes "names", file ∷ [], numbers, 0, option_if (begins_with (codes "--json") more) (codes "--json")))
 IsOf verbs.Unpack more k =
     (file : List ℕ) × (folder : List ℕ) × (base : ℕ) × AreUnpack more file folder base
     × (k ≡ (codes "unpack", file ∷ folder ∷ [], [], base, []))
@@ -71,7 +71,7 @@ IsOf verbs.Diff more k =
     (first : List ℕ) × (second : List ℕ) × (more ≡ first ∷ second ∷ []) × (k ≡ (codes "diff", first ∷ second ∷ [], [], 0, []))
 IsOf verbs.Tree more k =
     (file : List ℕ) × (after_option verbs.Tree more ≡ file ∷ [])
-    × (k ≡ (codes "tree", file ∷ [], [], 0, option_if (begins_with_dot more) (codes "--dot")))
+    × (k ≡ (codes "tree", file ∷ [], [], 0, option_if (begins_with (codes "--dot") more) (codes "--dot")))
 
 one_of : (verb : Verb) (more : List (List ℕ)) (k l : Content) → IsOf verb more k → IsOf verb more l → k ≡ l
 one_of verbs.Show more k l (inl one) (inl two) =

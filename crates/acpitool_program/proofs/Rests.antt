@@ -1,6 +1,7 @@
 -- The words after `lay`, or after `lay --rsdp ADDRESS`.
-use Rattle.std.proofs.Common.{◌≡◌, ℕ, true, false, List, ◌∷◌, length, Option, Some, None, refl, sym, ap, subst, ◌∙◌, arith}
-use Rattle.acpitool_program.specs.Command.{is_rsdp, begins_with_rsdp, IsAddress, IsRest}
+use Rattle.std.proofs.Common.{◌≡◌, ℕ, true, false, List, ◌∷◌, length, Option, Some, None, refl, sym, ap, subst, ◌∙◌, arith, codes}
+use Rattle.std.specs.Str.{bytes_eq}
+use Rattle.acpitool_program.specs.Command.{begins_with, IsAddress, IsRest}
 
 pub same_addresses : (v w : List ℕ) (base from : ℕ) → v ≡ w → IsAddress v base → IsAddress w from → base ≡ from
 same_addresses v w base from same one two =
@@ -8,9 +9,9 @@ same_addresses v w base from same one two =
     let here = subst P same one in
     here.is ∙ sym two.is
 
-first_leads : (more others : List (List ℕ)) (option word : List ℕ) → more ≡ option ∷ word ∷ others → is_rsdp option ≡ true → begins_with_rsdp more ≡ false → ⊥
+first_leads : (more others : List (List ℕ)) (option word : List ℕ) → more ≡ option ∷ word ∷ others → bytes_eq option (codes "--rsdp") ≡ true → begins_with (codes "--rsdp") more ≡ false → ⊥
 first_leads more others option word is leads not =
-    let e : true ≡ false = sym leads ∙ sym (ap (λ l. begins_with_rsdp l) is) ∙ not in cc
+    let e : true ≡ false = sym leads ∙ sym (ap (λ l. begins_with (codes "--rsdp") l) is) ∙ not in cc
 
 pub same_rest : (more r s : List (List ℕ)) (a b : Option ℕ) → IsRest more a r → IsRest more b s → (a ≡ b) × (r ≡ s)
 same_rest more r s None None one two = (refl, sym one.1 ∙ two.1)
@@ -22,13 +23,13 @@ same_rest more r s (Some a) (Some b) one two =
     (ap (λ (n : ℕ). Some n) address, cc (one.2, two.2))
 
 -- one word alone, which begins with the option
-pub no_pointer : (more rest : List (List ℕ)) (rsdp : Option ℕ) → begins_with_rsdp more ≡ true → length more ≡ 1 → IsRest more rsdp rest → ⊥
+pub no_pointer : (more rest : List (List ℕ)) (rsdp : Option ℕ) → begins_with (codes "--rsdp") more ≡ true → length more ≡ 1 → IsRest more rsdp rest → ⊥
 no_pointer more rest None first one is = let e : true ≡ false = sym first ∙ is.0 in cc
 no_pointer more rest (Some rsdp) first one is = let two = ap length is.2 in absurd (omega (arith, one, two))
 
 -- a second word that is no address
 pub no_address : (more rest others : List (List ℕ)) (option word : List ℕ) (rsdp : Option ℕ) → more ≡ option ∷ word ∷ others
-    → is_rsdp option ≡ true → ((n : ℕ) → ¬ IsAddress word n) → IsRest more rsdp rest → ⊥
+    → bytes_eq option (codes "--rsdp") ≡ true → ((n : ℕ) → ¬ IsAddress word n) → IsRest more rsdp rest → ⊥
 no_address more rest others option word None is leads not one = first_leads more others option word is leads one.0
 no_address more rest others option word (Some rsdp) is leads not one =
     let P : List ℕ → Type 0 = λ l. IsAddress l rsdp in

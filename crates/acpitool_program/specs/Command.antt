@@ -38,57 +38,31 @@ abbrev pub takes : Verb → List ℕ → Bool
 takes verbs.Make word = is_force word
 takes verb word = false
 
--- the option that asks for JSON
-abbrev pub is_json : List ℕ → Bool
-is_json word = bytes_eq word (codes "--json")
-
--- the option of `show` that asks for texts without offsets
-abbrev pub is_bare : List ℕ → Bool
-is_bare word = bytes_eq word (codes "--no-offsets")
-
--- the option of `show` that asks for the bytes of definition blocks
-abbrev pub is_bytes : List ℕ → Bool
-is_bytes word = bytes_eq word (codes "--bytes")
-
--- the option of `tree` that asks for a graph
-abbrev pub is_dot : List ℕ → Bool
-is_dot word = bytes_eq word (codes "--dot")
-
--- the option of `lay` before the address of an RSDP
-abbrev pub is_rsdp : List ℕ → Bool
-is_rsdp word = bytes_eq word (codes "--rsdp")
-
 -- whether a command takes an option right after its own word
 abbrev pub leads : Verb → List ℕ → Bool
-leads verbs.Show word = is_json word || is_bare word || is_bytes word
-leads verbs.Check word = is_json word
-leads verbs.Image word = is_json word
-leads verbs.Names word = is_json word
-leads verbs.Tree word = is_dot word
-leads verbs.Lay word = is_rsdp word
+leads verbs.Show word = bytes_eq word (codes "--json") || bytes_eq word (codes "--no-offsets") || bytes_eq word (codes "--bytes")
+leads verbs.Check word = bytes_eq word (codes "--json")
+leads verbs.Image word = bytes_eq word (codes "--json")
+leads verbs.Names word = bytes_eq word (codes "--json")
+leads verbs.Tree word = bytes_eq word (codes "--dot")
+leads verbs.Lay word = bytes_eq word (codes "--rsdp")
 leads verb word = false
 
--- whether the first word after a command is one of these
-abbrev pub begins_with_json : List (List ℕ) → Bool
-begins_with_json [] = false
-begins_with_json (word ∷ words) = is_json word
+-- whether the first word after a command is this option
+abbrev pub begins_with : List ℕ → List (List ℕ) → Bool
+begins_with option [] = false
+begins_with option (word ∷ words) = bytes_eq word option
 
-abbrev pub begins_with_dot : List (List ℕ) → Bool
-begins_with_dot [] = false
-begins_with_dot (word ∷ words) = is_dot word
-
-abbrev pub begins_with_rsdp : List (List ℕ) → Bool
-begins_with_rsdp [] = false
-begins_with_rsdp (word ∷ words) = is_rsdp word
-
+-- whether it is one that the command takes there
 abbrev pub begins_with_option : Verb → List (List ℕ) → Bool
 begins_with_option verb [] = false
 begins_with_option verb (word ∷ words) = leads verb word
 
 -- how `show` shows tables, by the first word after it
 abbrev pub style_of : List (List ℕ) → Style
-style_of [] = Usual
-style_of (word ∷ words) = if is_bare word then Bare else (if is_bytes word then Bytes else Usual)
+style_of words =
+    if begins_with (codes "--no-offsets") words then Bare
+    else (if begins_with (codes "--bytes") words then Bytes else Usual)
 
 -- the words after it, or all words
 abbrev pub after_option : Verb → List (List ℕ) → List (List ℕ)
@@ -173,7 +147,9 @@ files_in (word ∷ words) = if is_number word then 0 else suc (files_in words)
 -- how many files there are after `show`: after `--json` each word is one
 abbrev pub files_after : List (List ℕ) → ℕ
 files_after words =
-    if begins_with_json words then length (after_option verbs.Show words) else files_in (after_option verbs.Show words)
+    if begins_with (codes "--json") words
+    then length (after_option verbs.Show words)
+    else files_in (after_option verbs.Show words)
 
 abbrev pub unstated_by : Option (List ℕ × ℕ) → List ℕ → Option (List ℕ) → Option (List ℕ)
 unstated_by None word others = Some word
@@ -213,9 +189,10 @@ AreUnpack more file folder base = (rest : List (List ℕ)) × (more ≡ file ∷
 
 -- the words after `lay`, or after `lay --rsdp ADDRESS`
 abbrev pub IsRest : List (List ℕ) → Option ℕ → List (List ℕ) → Type 0
-IsRest more None rest = (begins_with_rsdp more ≡ false) × (more ≡ rest)
+IsRest more None rest = (begins_with (codes "--rsdp") more ≡ false) × (more ≡ rest)
 IsRest more (Some rsdp) rest =
-    (option : List ℕ) × (word : List ℕ) × (more ≡ option ∷ word ∷ rest) × (is_rsdp option ≡ true) × IsAddress word rsdp
+    (option : List ℕ) × (word : List ℕ) × (more ≡ option ∷ word ∷ rest) × (bytes_eq option (codes "--rsdp") ≡ true)
+    × IsAddress word rsdp
 
 -- FOLDER FILE BASE after these
 abbrev pub AreLay : List (List ℕ) → List ℕ → List ℕ → ℕ → Type 0
@@ -228,7 +205,7 @@ Asks words Version = (more : List (List ℕ)) × (words ≡ codes "--version" �
 Asks words (Show style files numbers) =
     (more : List (List ℕ))
     × AreAfter verbs.Show words more
-    × (begins_with_json more ≡ false)
+    × (begins_with (codes "--json") more ≡ false)
     × (style ≡ style_of more)
     × (after_option verbs.Show more
     ≡ map (λ word. string_bytes word) files.now ++ map (λ word. string_bytes word) numbers.now)
@@ -237,19 +214,19 @@ Asks words (Show style files numbers) =
 Asks words (Json files) =
     (more : List (List ℕ))
     × AreAfter verbs.Show words more
-    × (begins_with_json more ≡ true)
+    × (begins_with (codes "--json") more ≡ true)
     × (after_option verbs.Show more ≡ map (λ word. string_bytes word) files.now)
     × (1 ≤ files_after more)
 Asks words (Check json files) =
     (more : List (List ℕ))
     × AreAfter verbs.Check words more
-    × (json ≡ begins_with_json more)
+    × (json ≡ begins_with (codes "--json") more)
     × (after_option verbs.Check more ≡ map (λ word. string_bytes word) files.now)
     × (1 ≤ length (after_option verbs.Check more))
 Asks words (Image json file base) =
     (more : List (List ℕ))
     × AreAfter verbs.Image words more
-    × (json ≡ begins_with_json more)
+    × (json ≡ begins_with (codes "--json") more)
     × AreImage (after_option verbs.Image more) file.now base
 Asks words (Template signature) =
     (more : List (List ℕ)) × AreAfter verbs.Template words more × (more ≡ signature.now ∷ []) × (length signature.now ≡ 4)
@@ -259,7 +236,7 @@ Asks words (Disassemble file numbers) =
 Asks words (Names json file numbers) =
     (more : List (List ℕ))
     × AreAfter verbs.Names words more
-    × (json ≡ begins_with_json more)
+    × (json ≡ begins_with (codes "--json") more)
     × (after_option verbs.Names more ≡ file.now ∷ map (λ word. string_bytes word) numbers.now)
 Asks words (Unpack file folder base) =
     (more : List (List ℕ)) × AreAfter verbs.Unpack words more × AreUnpack more file.now folder.now base
@@ -274,7 +251,7 @@ Asks words (Diff first second) =
 Asks words (Tree dot file) =
     (more : List (List ℕ))
     × AreAfter verbs.Tree words more
-    × (dot ≡ begins_with_dot more)
+    × (dot ≡ begins_with (codes "--dot") more)
     × (after_option verbs.Tree more ≡ file.now ∷ [])
 Asks words (Make force text file) =
     (more : List (List ℕ)) × AreAfter verbs.Make words more × (force ≡ forces more) × (unforced more ≡ text.now ∷ file.now ∷ [])
@@ -433,7 +410,7 @@ pub record IsNoPointer (words : List (List ℕ)) (word : List ℕ) : Type 0 wher
   pub option : List ℕ
   pub rest : List (List ℕ)
   pub is : more ≡ option ∷ word ∷ rest
-  pub leads : is_rsdp option ≡ true
+  pub leads : bytes_eq option (codes "--rsdp") ≡ true
   pub not : (base : ℕ) → ¬ IsAddress word base
 
 -- the word in the place of BASE after `unpack` isn't an address
@@ -487,7 +464,7 @@ IsWrong words NoArchive = (more : List (List ℕ)) × AreAfter verbs.Cpio words 
 IsWrong words NoImageFile = HasLeft words 1
 IsWrong words NoBase = HasLeft words 2
 IsWrong words NoPointer =
-    (more : List (List ℕ)) × AreAfter verbs.Lay words more × (begins_with_rsdp more ≡ true) × (length more ≡ 1)
+    (more : List (List ℕ)) × AreAfter verbs.Lay words more × (begins_with (codes "--rsdp") more ≡ true) × (length more ≡ 1)
 IsWrong words NoDamaged = words ≡ codes "repair" ∷ []
 IsWrong words NoFirst = words ≡ codes "diff" ∷ []
 IsWrong words NoSecond = (more : List (List ℕ)) × AreAfter verbs.Diff words more × (length more ≡ 1)

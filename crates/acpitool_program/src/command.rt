@@ -5,10 +5,8 @@ ghost use Rattle.std.specs.List.{slice_get};
 ghost use Rattle.std.specs.Prelude.{MatchResult, MatchOption, IfOk, None, Some, true};
 ghost use Rattle.std.specs.List.{starts_with};
 ghost use Rattle.acpi_input.specs.Stated.{stated};
-ghost use Rattle.acpitool_program.specs.Command.{is_option, is_force, is_json, is_bare, is_bytes, is_dot};
-ghost use Rattle.acpitool_program.specs.Command.{leads, begins_with_json};
-ghost use Rattle.acpitool_program.specs.Command.{style_of, begins_with_dot, begins_with_rsdp, begins_with_option};
-ghost use Rattle.acpitool_program.specs.Command.{after_option, takes, option_in, is_rsdp, AreAfter, IsRest};
+ghost use Rattle.acpitool_program.specs.Command.{is_option, is_force, leads, begins_with, style_of, begins_with_option};
+ghost use Rattle.acpitool_program.specs.Command.{after_option, takes, option_in, AreAfter, IsRest};
 ghost use Rattle.acpitool_program.specs.Command.{first_option, forces, unforced, has, is_number};
 ghost use Rattle.acpitool_program.specs.Command.{files_in, first_unstated, IsMisstated};
 ghost use Rattle.acpitool_program.specs.Command.{word_of, IsAddress, Asks, IsWrong};
@@ -33,8 +31,8 @@ pub enum Command<'a> {
     /// `check [--json] FILE ..`: the rules that tables in files, in folders, or on standard input where the word is `-`, break.
     /// `--json` is there or not.
     Check(bool, &'a [String]),
-    /// `image [--json] FILE [BASE]`: the tables of an image in a file, which begins at the physical address BASE in hexadecimal,
-    /// or at 0. `--json` is there or not.
+    /// `image [--json] FILE [BASE]`: the tables of an image in a file, or on standard input where the word is `-`. It begins at
+    /// the physical address BASE in hexadecimal, or at 0. `--json` is there or not.
     Image(bool, &'a str, u64),
     /// `make [--force] TEXT FILE`: the table of a text, which goes to a file. `--force` is there or not.
     Make(bool, &'a str, &'a str),
@@ -191,48 +189,13 @@ fn takes(verb: Verb, word: &str) -> bool
     }
 }
 
-// Returns whether a word is `--json`.
-fn is_json(word: &str) -> bool
-    ensures { result ≡ is_json word.now }
-{
-    word == "--json"
-}
-
-// Returns whether a word is `--no-offsets`.
-fn is_bare(word: &str) -> bool
-    ensures { result ≡ is_bare word.now }
-{
-    word == "--no-offsets"
-}
-
-// Returns whether a word is `--bytes`.
-fn is_bytes(word: &str) -> bool
-    ensures { result ≡ is_bytes word.now }
-{
-    word == "--bytes"
-}
-
-// Returns whether a word is `--dot`.
-fn is_dot(word: &str) -> bool
-    ensures { result ≡ is_dot word.now }
-{
-    word == "--dot"
-}
-
-// Returns whether a word is `--rsdp`.
-fn is_rsdp(word: &str) -> bool
-    ensures { result ≡ is_rsdp word.now }
-{
-    word == "--rsdp"
-}
-
-// Returns whether the first word is `--json`.
-fn begins_with_json(words: &[String]) -> bool
-    ensures { result ≡ begins_with_json (map (λ word. string_bytes word) words.now) }
+// Returns whether the first word is this option.
+fn begins_with(option: &str, words: &[String]) -> bool
+    ensures { result ≡ begins_with option.now (map (λ word. string_bytes word) words.now) }
 {
     match words {
         [] => false,
-        [word, ..] => is_json(word.as_str()),
+        [word, ..] => word.as_str() == option,
     }
 }
 
@@ -240,30 +203,12 @@ fn begins_with_json(words: &[String]) -> bool
 fn style_of(words: &[String]) -> Style
     ensures { result ≡ style_of (map (λ word. string_bytes word) words.now) }
 {
-    match words {
-        [word, ..] if is_bare(word.as_str()) => Style::Bare,
-        [word, ..] if is_bytes(word.as_str()) => Style::Bytes,
-        _ => Style::Usual,
-    }
-}
-
-// Returns whether the first word is `--dot`.
-fn begins_with_dot(words: &[String]) -> bool
-    ensures { result ≡ begins_with_dot (map (λ word. string_bytes word) words.now) }
-{
-    match words {
-        [] => false,
-        [word, ..] => is_dot(word.as_str()),
-    }
-}
-
-// Returns whether the first word is `--rsdp`.
-fn begins_with_rsdp(words: &[String]) -> bool
-    ensures { result ≡ begins_with_rsdp (map (λ word. string_bytes word) words.now) }
-{
-    match words {
-        [] => false,
-        [word, ..] => is_rsdp(word.as_str()),
+    if begins_with("--no-offsets", words) {
+        Style::Bare
+    } else if begins_with("--bytes", words) {
+        Style::Bytes
+    } else {
+        Style::Usual
     }
 }
 
@@ -272,10 +217,10 @@ fn leads(verb: Verb, word: &str) -> bool
     ensures { result ≡ leads verb word.now }
 {
     match verb {
-        Verb::Show => is_json(word) || is_bare(word) || is_bytes(word),
-        Verb::Check | Verb::Image | Verb::Names => is_json(word),
-        Verb::Tree => is_dot(word),
-        Verb::Lay => is_rsdp(word),
+        Verb::Show => word == "--json" || word == "--no-offsets" || word == "--bytes",
+        Verb::Check | Verb::Image | Verb::Names => word == "--json",
+        Verb::Tree => word == "--dot",
+        Verb::Lay => word == "--rsdp",
         Verb::Make | Verb::Template | Verb::Disassemble => false,
         Verb::Unpack | Verb::Cpio => false,
         Verb::Loader | Verb::Repair | Verb::Diff => false,
@@ -394,7 +339,7 @@ fn show(words: &[String]) -> Result<Command<'_>, Wrong<'_>>
         → MatchResult result (Asks all) (IsWrong all) }
 {
     let rest = after_option(Verb::Show, words);
-    if begins_with_json(words) {
+    if begins_with("--json", words) {
         if rest.is_empty() {
             return Err(Wrong::NoFile);
         }
@@ -418,7 +363,7 @@ fn check(words: &[String]) -> Result<Command<'_>, Wrong<'_>>
     if files.is_empty() {
         return Err(Wrong::NoFileToCheck);
     }
-    Ok(Command::Check(begins_with_json(words), files))
+    Ok(Command::Check(begins_with("--json", words), files))
 }
 
 // Returns the first word that isn't NAME=N.
@@ -486,7 +431,7 @@ fn image(words: &[String]) -> Result<Command<'_>, Wrong<'_>>
     ensures { (all : List (List ℕ)) → all ≡ codes "image" ∷ map (λ word. string_bytes word) words.now
         → MatchResult result (Asks all) (IsWrong all) }
 {
-    let json = begins_with_json(words);
+    let json = begins_with("--json", words);
     match after_option(Verb::Image, words) {
         [] => Err(Wrong::NoImage),
         [file] => Ok(Command::Image(json, file.as_str(), 0)),
@@ -557,7 +502,7 @@ fn names(words: &[String]) -> Result<Command<'_>, Wrong<'_>>
     ensures { (all : List (List ℕ)) → all ≡ codes "names" ∷ map (λ word. string_bytes word) words.now
         → MatchResult result (Asks all) (IsWrong all) }
 {
-    let json = begins_with_json(words);
+    let json = begins_with("--json", words);
     match after_option(Verb::Names, words) {
         [] => Err(Wrong::NoBlock),
         [file, numbers @ ..] => Ok(Command::Names(json, file.as_str(), numbers)),
@@ -621,7 +566,7 @@ fn laid(rsdp: Option<u64>, words: &[String]) -> Result<Command<'_>, Wrong<'_>>
 
 // Returns what `lay` and these words, which begin with `--rsdp`, ask for.
 fn laid_apart(words: &[String]) -> Result<Command<'_>, Wrong<'_>>
-    requires first { begins_with_rsdp (map (λ word. string_bytes word) words.now) ≡ true }
+    requires first { begins_with (codes "--rsdp") (map (λ word. string_bytes word) words.now) ≡ true }
     ensures { (all : List (List ℕ)) → AreAfter verbs.Lay all (map (λ word. string_bytes word) words.now)
         → MatchResult result (Asks all) (IsWrong all) }
 {
@@ -643,7 +588,7 @@ fn lay(words: &[String]) -> Result<Command<'_>, Wrong<'_>>
     ensures { (all : List (List ℕ)) → all ≡ codes "lay" ∷ map (λ word. string_bytes word) words.now
         → MatchResult result (Asks all) (IsWrong all) }
 {
-    if begins_with_rsdp(words) {
+    if begins_with("--rsdp", words) {
         laid_apart(words)
     } else {
         laid(None, words)
@@ -698,7 +643,7 @@ fn tree(words: &[String]) -> Result<Command<'_>, Wrong<'_>>
     ensures { (all : List (List ℕ)) → all ≡ codes "tree" ∷ map (λ word. string_bytes word) words.now
         → MatchResult result (Asks all) (IsWrong all) }
 {
-    let dot = begins_with_dot(words);
+    let dot = begins_with("--dot", words);
     match after_option(Verb::Tree, words) {
         [] => Err(Wrong::NoDrawing),
         [file] => Ok(Command::Tree(dot, file.as_str())),

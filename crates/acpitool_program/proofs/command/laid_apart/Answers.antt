@@ -1,5 +1,5 @@
-use Rattle.std.proofs.Common.{List, ℕ, String, Global, map, string_bytes, ap, sym, ◌∙◌, inr}
-use Rattle.acpitool_program.specs.Command.{begins_with_rsdp}
+use Rattle.std.proofs.Common.{List, ℕ, String, Global, map, string_bytes, ap, sym, ◌∙◌, inr, codes}
+use Rattle.acpitool_program.specs.Command.{begins_with}
 use Rattle.acpitool_program.proofs.Words.{two_front, second_word}
 use Rattle.acpitool_program.proofs.command.laid_apart.Goals as goal
 
@@ -12,7 +12,7 @@ returns-in-Some c = λ all after.
       front.0,
       c.as_str-word.result.now,
       front.1,
-      sym (ap (λ l. begins_with_rsdp l) front.1) ∙ c.requires.first,
+      sym (ap (λ l. begins_with (codes "--rsdp") l) front.1) ∙ c.requires.first,
       c.in-Some.ensures,
     )
 
@@ -27,6 +27,6 @@ returns-in-None c = λ all after.
       option = second.0;
       rest = second.1;
       is = second.2;
-      leads = sym (ap (λ l. begins_with_rsdp l) second.2) ∙ c.requires.first;
+      leads = sym (ap (λ l. begins_with (codes "--rsdp") l) second.2) ∙ c.requires.first;
       not = c.in-None.ensures;
     })))
