@@ -1,6 +1,6 @@
 -- What the bytes of a table are after their length and their checksums are set.
 use Rattle.std.proofs.Common.{◌≡◌, ℕ, ◌+◌, ◌-◌, ◌%◌, ◌<◌, ◌≤◌, ◌^◌, ◌==◌, Bool, cond, List, [], ◌∷◌, ◌++◌, length, take, drop, true, false, refl, sym, ◌∙◌, ap, arith, inl, inr, append_assoc, length-append}
-use Rattle.std.specs.Prelude.{sum, max, slice_index, nat_lt, Some, None}
+use Rattle.std.specs.Prelude.{sum, max, slice_index, nat_lt, Option, Some, None}
 use Rattle.std.proofs.lemmas.List.{take_all, take_at, drop_at, drop-take, length-take-le, take-append-drop}
 use Rattle.std.proofs.lemmas.Slice.{drop-append-drop}
 use Rattle.std.proofs.lemmas.Bool.Decides.{nat_tests}
@@ -11,13 +11,13 @@ use Rattle.acpi_base.specs.Table.{IsTrueTable}
 use Rattle.acpi_base.proofs.Bytes.{carried_le, length_le}
 use Rattle.acpi_base.proofs.Puts.{length-put, put-append, sum-put, take-put}
 use Rattle.acpitool_program.specs.Text.{IsKind}
-use Rattle.acpitool_program.specs.Repair.{misfit, misfit_as, is_signed, seals_as, least, with_length, with_sum, set_seal, set_seals, needs, need, is_short_pointer}
+use Rattle.acpitool_program.specs.Repair.{unfit_of, unfit_as, is_plain_text, is_signed, seals_as, least, with_length, with_sum, set_seal, set_seals, needs, need, is_short_pointer}
 use Rattle.acpitool_program.specs.Check.{IsPointer, IsControl, IsCoherent, IsPerformance}
 use Rattle.acpi_make.specs.declared.file_kind.FileKind.{FileKind}
 use Rattle.acpi_make.specs.declared.file_kind.FileKind.TheVariants.{Rsdp, Facs, Cdat, S3pt, Table}
 use Rattle.acpitool_program.specs.declared.repair.Seal.{Seal}
 use Rattle.acpitool_program.specs.declared.repair.Unfit.{Unfit}
-use Rattle.acpitool_program.specs.declared.repair.Unfit.TheVariants.{Dump, Short, Long, NoSignature}
+use Rattle.acpitool_program.specs.declared.repair.Unfit.TheVariants.{Dump, Short, Long, Text, NotSigned}
 use Rattle.acpitool_program.specs.declared.repair.Seal.TheVariants.{Length, Checksum, FrontChecksum}
 
 -- ---- bytes that were written
@@ -223,18 +223,19 @@ length_kept (FrontChecksum at) x h = sum_length at 20 x (omega arith)
 
 -- ---- bytes that fit
 
-fit_by : (n m : ℕ) (u v w : Unfit) (few many signed : Bool) → nat_lt n m ≡ few → nat_lt 0xffffffff n ≡ many
-    → cond few (Some u) (cond many (Some v) (cond signed None (Some w))) ≡ None → (m ≤ n) × (n < 2 ^ 32)
-fit_by n m u v w true many signed is_few is_many e = absurd (cc)
-fit_by n m u v w false true signed is_few is_many e = absurd (cc)
-fit_by n m u v w false false signed is_few is_many e = (grind (arith, nat_tests, is_few), grind (arith, nat_tests, is_many))
+fit_by : (n m : ℕ) (u v : Unfit) (rest : Option Unfit) (few many : Bool) → nat_lt n m ≡ few → nat_lt 0xffffffff n ≡ many
+    → cond few (Some u) (cond many (Some v) rest) ≡ None → (m ≤ n) × (n < 2 ^ 32)
+fit_by n m u v rest true many is_few is_many e = absurd (cc)
+fit_by n m u v rest false true is_few is_many e = absurd (cc)
+fit_by n m u v rest false false is_few is_many e = (grind (arith, nat_tests, is_few), grind (arith, nat_tests, is_many))
 
 -- they are enough, and not more than a length can say
-pub fits : (x : List ℕ) → misfit x ≡ None → (least (kind_of x) x ≤ length x) × (length x < 2 ^ 32)
+pub fits : (x : List ℕ) → unfit_of x ≡ None → (least (kind_of x) x ≤ length x) × (length x < 2 ^ 32)
 fits x is = by (is_dump x) is
   where
-    by : (dump : Bool) → cond dump (Some Dump) (misfit_as (kind_of x) x) ≡ None → (least (kind_of x) x ≤ length x) × (length x < 2 ^ 32)
+    by : (dump : Bool) → cond dump (Some Dump) (unfit_as (kind_of x) x) ≡ None → (least (kind_of x) x ≤ length x) × (length x < 2 ^ 32)
     by true e = absurd (cc)
     by false e =
-        fit_by (length x) (least (kind_of x) x) (Short (least (kind_of x) x)) Long NoSignature (nat_lt (length x) (least (kind_of x) x))
-        (nat_lt 0xffffffff (length x)) (is_signed (kind_of x) x) refl refl e
+        fit_by (length x) (least (kind_of x) x) (Short (least (kind_of x) x)) Long
+        (cond (is_plain_text x) (Some Text) (cond (is_signed (kind_of x) x) None (Some NotSigned)))
+        (nat_lt (length x) (least (kind_of x) x)) (nat_lt 0xffffffff (length x)) refl refl e

@@ -9,7 +9,7 @@ use Rattle.acpi_forms.specs.Kind.{kind_of}
 use Rattle.acpi_text.specs.Form.{number_at}
 use Rattle.acpitool_program.specs.Listing.{NotRead}
 use Rattle.acpitool_program.specs.Making.{IsWritten}
-use Rattle.acpitool_program.specs.Repair.{seals_as, misfit, why_unfit, repaired}
+use Rattle.acpitool_program.specs.Repair.{seals_as, unfit_of, why_unfit, repaired}
 use Rattle.acpitool_program.specs.Text.{IsKind}
 use Rattle.acpitool_program.specs.declared.repair.Seal.{Seal}
 use Rattle.acpitool_program.specs.declared.repair.Seal.TheVariants.{Length, Checksum, FrontChecksum}
@@ -55,7 +55,7 @@ changes_of name bytes = changes name bytes (repaired bytes) (seals_as (kind_of b
 
 -- the bytes are what their signature says once they are repaired, and are written
 pub record IsRepaired (name bytes file : List ℕ) (out out' err err' : Option (List ℕ)) (status : ℕ) : Type 0 where
-  pub fit : misfit bytes ≡ None
+  pub fit : unfit_of bytes ≡ None
   pub is : IsKind (kind_of bytes) (repaired bytes)
   pub between : Option (List ℕ)
   pub told : Appends err between (changes_of name bytes)
@@ -64,7 +64,7 @@ pub record IsRepaired (name bytes file : List ℕ) (out out' err err' : Option (
 -- the bytes are no table, and a line says why
 pub record NotRepaired (name bytes : List ℕ) (out out' err err' : Option (List ℕ)) (status : ℕ) : Type 0 where
   pub why : Unfit
-  pub cause : misfit bytes ≡ Some why
+  pub cause : unfit_of bytes ≡ Some why
   pub complained : Appends err err' (name ++ codes ": " ++ why_unfit why ++ 10 ∷ [])
   pub silent : Keeps out out'
   pub is : status ≡ 1

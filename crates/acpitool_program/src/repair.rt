@@ -4,7 +4,8 @@ ghost use Rattle.std.specs.Prelude.{◌≡◌, ◌+◌, ◌<◌, ◌≤◌, ◌^
 ghost use Rattle.acpi_forms.specs.Kind.{kind_of};
 ghost use Rattle.acpitool_program.specs.Repair.{is_short_pointer, seals_as, least, with_length, with_sum, set_seal, set_seals};
 ghost use Rattle.acpitool_program.specs.Repair.{is_signature_character, begins_characters, begins_signature, is_signed};
-ghost use Rattle.acpitool_program.specs.Repair.{needs, need, misfit, misfit_as, why_unfit, repaired};
+ghost use Rattle.acpitool_program.specs.Repair.{is_text_byte, is_plain_text};
+ghost use Rattle.acpitool_program.specs.Repair.{needs, need, unfit_of, unfit_as, why_unfit, repaired};
 ghost use Rattle.acpitool_program.specs.Text.{IsKind};
 
 use acpi_base::patch::write_at;
@@ -26,7 +27,7 @@ pub enum Seal {
     FrontChecksum(u8),
 }
 
-/// Why bytes are no table whatever their length and checksums are. Its text is for a line after the name of the file.
+/// Why no length and no checksums make bytes a table. Its text is for a line after the name of the file.
 #[derive(Clone, Copy, Debug)]
 pub enum Unfit {
     /// They are a dump of tables as text.
@@ -35,8 +36,10 @@ pub enum Unfit {
     Short(usize),
     /// They are 2^32 or more, which no length can say.
     Long,
+    /// They are a text.
+    Text,
     /// They begin with no signature.
-    NoSignature,
+    NotSigned,
 }
 
 impl fmt::Display for Unfit {
@@ -47,7 +50,8 @@ impl fmt::Display for Unfit {
             Unfit::Dump => write!(f, "a dump of tables, which unpack writes one by one"),
             Unfit::Short(least) => write!(f, "fewer than {least} bytes"),
             Unfit::Long => write!(f, "4294967296 bytes or more"),
-            Unfit::NoSignature => write!(f, "the first four bytes are no signature of a table"),
+            Unfit::Text => write!(f, "a text, not a table"),
+            Unfit::NotSigned => write!(f, "the first four bytes are no signature of a table"),
         }
     }
 }
@@ -121,30 +125,51 @@ fn is_signed(kind: FileKind, bytes: &[u8]) -> bool
     }
 }
 
-// Returns why bytes of a kind are no table whatever their length and checksums are.
-fn misfit_as(kind: FileKind, bytes: &[u8]) -> Option<Unfit>
-    ensures { result ≡ misfit_as kind bytes.now }
+// Returns whether a byte is a character that prints, a tab or an end of a line.
+fn is_text_byte(byte: u8) -> bool
+    ensures { result ≡ is_text_byte byte }
+{
+    (0x20..=0x7e).contains(&byte) || byte == b'\t' || byte == b'\n' || byte == b'\r'
+}
+
+// Returns whether all bytes are.
+fn is_plain_text(bytes: &[u8]) -> bool
+    ensures { result ≡ is_plain_text bytes.now }
+{
+    'bytes: for byte in bytes {
+        if !is_text_byte(*byte) {
+            return false;
+        }
+    }
+    true
+}
+
+// Returns why no length and no checksums make bytes of a kind a table.
+fn unfit_as(kind: FileKind, bytes: &[u8]) -> Option<Unfit>
+    ensures { result ≡ unfit_as kind bytes.now }
 {
     let least = least(kind, bytes);
     if bytes.len() < least {
         Some(Unfit::Short(least))
     } else if bytes.len() > 0xffff_ffff {
         Some(Unfit::Long)
+    } else if is_plain_text(bytes) {
+        Some(Unfit::Text)
     } else if !is_signed(kind, bytes) {
-        Some(Unfit::NoSignature)
+        Some(Unfit::NotSigned)
     } else {
         None
     }
 }
 
-// Returns why bytes are no table whatever their length and checksums are.
-fn misfit(bytes: &[u8]) -> Option<Unfit>
-    ensures { result ≡ misfit bytes.now }
+// Returns why no length and no checksums make bytes a table.
+fn unfit_of(bytes: &[u8]) -> Option<Unfit>
+    ensures { result ≡ unfit_of bytes.now }
 {
     if is_dump(bytes) {
         Some(Unfit::Dump)
     } else {
-        misfit_as(kind_of(bytes), bytes)
+        unfit_as(kind_of(bytes), bytes)
     }
 }
 
@@ -221,10 +246,10 @@ fn repaired_as(alloc: Global, kind: FileKind, bytes: &[u8]) -> Result<Vec<u8>, A
 /// stay as they are. The only error is that memory ran out.
 pub fn repaired(alloc: Global, bytes: &[u8]) -> Result<Result<Vec<u8>, Unfit>, AllocError>
     ensures { IfOk result (λ made. MatchResult made
-        (λ new. (new.items ≡ repaired bytes.now) × IsKind (kind_of bytes.now) new.items × (misfit bytes.now ≡ None))
-        (λ why. misfit bytes.now ≡ Some why)) }
+        (λ new. (new.items ≡ repaired bytes.now) × IsKind (kind_of bytes.now) new.items × (unfit_of bytes.now ≡ None))
+        (λ why. unfit_of bytes.now ≡ Some why)) }
 {
-    match misfit(bytes) {
+    match unfit_of(bytes) {
         Some(why) => Ok(Err(why)),
         None => Ok(Ok(repaired_as(alloc, kind_of(bytes), bytes)?)),
     }

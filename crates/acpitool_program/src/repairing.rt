@@ -101,7 +101,7 @@ fn repair_bytes<R: Files, O: Write, E: Write>(
 
 /// Writes the table of a file, or of standard input if the word is `-`, with the right length and checksums to a file, or to
 /// standard output. A line on `err` says of each of them that was wrong what it was and is. The files may be the same. The status
-/// is 1 if the bytes are no table whatever these are, or can't be written, and 2 if the file can't be read.
+/// is 1 if none of them makes the bytes a table, or if these can't be written, and 2 if the file can't be read.
 pub fn repair_file<R: Files + Input, O: Write, E: Write>(
     rt: &R,
     alloc: Global,
