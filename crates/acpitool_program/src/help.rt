@@ -61,7 +61,7 @@ with its path from the root.
 image finds the RSDP in a file with the bytes of a guest's memory, follows it to all tables, and checks them.
 It prints the address, signature, length and revision of each. BASE is the address of the first byte in
 hexadecimal; it is 0 if there is none. If no RSDP points to an XSDT, one of revision 0 or 1 counts, which points to an RSDT.
-image --json prints an array of JSON with an object for each table.
+image --json prints an array of JSON with an object for each table. As FILE, - is standard input.
 
 make reads a text that show prints, changed or written by hand, and writes the bytes of its table to FILE.
 Question marks are worked out: the length, the checksum, and how long, how many and of which type structures

@@ -5,12 +5,12 @@ ghost use Rattle.std.specs.Io.KnownBytes.{Appends};
 ghost use Rattle.acpitool_program.specs.Listing.{why, Listed, ListedBytes};
 
 use crate::complaint::complain;
-use crate::files::read_file;
+use crate::files::read_word;
 use crate::image::{NoImage, find_tables, print_tables, why};
 use crate::outcome::tell_unread;
 use std::alloc::Global;
 use std::io;
-use std::io::Write;
+use std::io::{Input, Write};
 use std::rt::Files;
 
 /// Prints why a file has no image, and returns 1.
@@ -52,8 +52,8 @@ fn list_tables<O: Write, E: Write>(
     }
 }
 
-/// Lists the tables of the image in a file, as an array of JSON or a line for each.
-pub fn list_file<R: Files, O: Write, E: Write>(
+/// Lists the tables of the image in a file, or on standard input if the word is `-`, as an array of JSON or a line for each.
+pub fn list_file<R: Files + Input, O: Write, E: Write>(
     rt: &R,
     alloc: Global,
     json: bool,
@@ -65,7 +65,7 @@ pub fn list_file<R: Files, O: Write, E: Write>(
     ensures { IfOk result (λ status. Listed json file.now base (O.contents out.old) (O.contents out.new)
         (E.contents err.old) (E.contents err.new) status) }
 {
-    match read_file(rt, alloc, file) {
+    match read_word(rt, alloc, file) {
         Ok(bytes) => list_tables(alloc, json, file, base, &bytes, out, err),
         Err(error) => tell_unread(alloc, file, &error, err),
     }
