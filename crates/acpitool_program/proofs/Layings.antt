@@ -13,7 +13,9 @@ use Rattle.acpitool_program.specs.Image.{IsFoundImage}
 use Rattle.acpitool_program.specs.Laying.{is_text, IsTableOfFields, IsTableBy, IsTableOf, OfTextOrNot, AreOfText, MayBeLaid, IsFile, IsNoFile, IsUnmade}
 use Rattle.acpitool_program.specs.Laying.{AreFiles, IsRefused, IsMisread, IsNotFound, HaveNoneLaid, IsNotLaid, IsFoundOf, IsImageOf}
 use Rattle.acpitool_program.specs.Laying.{IsSavedTo, IsSaved, IsLaidOut}
-use Rattle.acpitool_program.specs.Making.{IsChecked, warnings, IsJudged, MadeText, Held, NotMade}
+use Rattle.acpitool_program.specs.Making.{IsChecked, IsJudged, MadeText, Held, NotMade}
+use Rattle.acpitool_program.specs.Noted.{AreNotes}
+use Rattle.acpitool_program.specs.Outcome.{fault_line}
 use Rattle.acpitool_program.specs.Structures.{IsSoundOr}
 use Rattle.acpitool_program.specs.declared.fault.Fault.{Fault}
 
@@ -30,9 +32,11 @@ quietly path owns bytes a b judged =
     let are = unforced owns judged.fault judged.right in
     let Q : List Own → Type 0 = λ l. IsChecked l bytes judged.fault in
     let R : Option Fault → Type 0 = λ f. IsSoundOr bytes f in
-    let S : List Own → Type 0 = λ l. Appends a b (warnings path l judged.fault) in
-    let T : Option Fault → Type 0 = λ f. Appends a b (warnings path [] f) in
-    (appends_nothing a b (subst T are.1 (subst S are.0 judged.noted)), are.0, subst R are.1 (subst Q are.0 judged.checked))
+    let S : List Own → Type 0 = λ l. AreNotes path bytes l judged.noted.told in
+    let T : Option Fault → Type 0 = λ f. Appends a b (judged.noted.told ++ fault_line path f) in
+    let U : List ℕ → Type 0 = λ l. Appends a b (l ++ []) in
+    let told = subst S are.0 judged.noted.are in
+    (appends_nothing a b (subst U told (subst T are.1 judged.noted.printed)), are.0, subst R are.1 (subst Q are.0 judged.checked))
 
 made_then : (path text bytes : List ℕ) (a b : Option (List ℕ)) → MadeText false path text bytes a b → IsTableOfFields text bytes × Keeps a b
 made_then path text bytes a b one =
@@ -90,7 +94,13 @@ held_then path text a b c kept not = record {
     checked = not.judged.checked;
     wrong = not.judged.wrong;
     no_force = not.judged.no_force;
-    noted = keeps_then a b c _ kept not.judged.noted;
+    between = not.judged.between;
+    noted = record {
+      told = not.judged.noted.told;
+      are = not.judged.noted.are;
+      printed = keeps_then a b not.judged.between _ kept not.judged.noted.printed;
+    };
+    held = not.judged.held;
   };
 }
 

@@ -1,25 +1,15 @@
 -- The fields in which the tables in two files differ.
 use Rattle.std.specs.Prelude.{◌≡◌, ◌≢◌, ◌⊎◌, ℕ, List, [], ◌∷◌, ◌++◌, map, Option, codes}
 use Rattle.std.specs.Io.KnownBytes.{Keeps, Appends}
-use Rattle.acpi_forms.specs.File.{file_names, file_walk}
 use Rattle.acpi_forms.specs.Kind.{kind_of, title_of}
-use Rattle.acpi_forms.specs.Named.{IsNamed}
 use Rattle.acpi_read.specs.Report.{printable}
 use Rattle.acpi_rules.specs.Difference.{AreLines}
-use Rattle.acpi_rules.specs.Field.{Field, table_fields}
-use Rattle.acpi_text.specs.declared.form.TableForm.{TableForm}
+use Rattle.acpi_rules.specs.Field.{Field}
 use Rattle.acpitool_program.specs.Fault.{line_of}
+use Rattle.acpitool_program.specs.Fields.{AreFields}
 use Rattle.acpitool_program.specs.Listing.{NotRead}
 use Rattle.acpitool_program.specs.Text.{IsKind, IsTextFault}
 use Rattle.acpitool_program.specs.declared.fault.Fault.{Fault}
-
--- ---- the fields of one table
-
--- the fields of bytes by their form
-pub record AreFields (bytes : List ℕ) (fields : List Field) : Type 0 where
-  pub form : TableForm
-  pub is_named : IsNamed form (file_names bytes)
-  pub are : fields ≡ table_fields form (file_walk bytes) bytes
 
 -- ---- two tables
 

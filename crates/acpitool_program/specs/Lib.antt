@@ -11,6 +11,7 @@ pub mod Image
 pub mod Listing
 pub mod Placed
 pub mod Hint
+pub mod Noted
 pub mod Making
 pub mod Job
 pub mod Checked
@@ -21,6 +22,7 @@ pub mod Archiving
 pub mod Laying
 pub mod Apart
 pub mod Loading
+pub mod Fields
 pub mod Comparing
 pub mod Repair
 pub mod Repairing

@@ -1,6 +1,5 @@
 -- What is printed when a text is made into a table.
 use Rattle.std.specs.Prelude.{◌≡◌, ◌≢◌, ◌⊎◌, ℕ, Bool, true, false, List, [], ◌∷◌, ◌++◌, Option, Some, None, Ok, Err, codes}
-use Rattle.std.specs.Fmt.{decimal}
 use Rattle.std.specs.Io.KnownBytes.{Keeps, Appends}
 use Rattle.acpi_forms.specs.Makes.{IsMade}
 use Rattle.acpi_make.specs.Fault.{fault_of, explained}
@@ -12,31 +11,21 @@ use Rattle.acpi_compile.specs.Compiled.{is_asl}
 use Rattle.acpitool_program.specs.Compiling.{CompiledOrNot}
 use Rattle.acpitool_program.specs.Hint.{meant_in, hint}
 use Rattle.acpitool_program.specs.Listing.{NotRead}
+use Rattle.acpitool_program.specs.Noted.{AreNotes}
 use Rattle.acpitool_program.specs.Outcome.{fault_line}
 use Rattle.acpitool_program.specs.Structures.{IsSoundOr}
 use Rattle.acpitool_program.specs.declared.fault.Fault.{Fault}
-
--- a number that the text states otherwise, and the number that would be right
-abbrev pub note : List ℕ → Own → List ℕ
-note name one =
-    name
-    ++ (codes ": note: "
-    ++ (decimal one.number
-    ++ (codes " would be right at offset "
-    ++ (decimal one.offset ++ 10 ∷ []))))
-
-abbrev pub notes : List ℕ → List Own → List ℕ
-notes name [] = []
-notes name (one ∷ owns) = note name one ++ notes name owns
 
 -- what is wrong with a table whose numbers are right
 abbrev pub IsChecked : List Own → List ℕ → Option Fault → Type 0
 IsChecked [] bytes fault = IsSoundOr bytes fault
 IsChecked (one ∷ owns) bytes fault = fault ≡ None
 
--- the notes on a table, and what is wrong with it
-abbrev pub warnings : List ℕ → List Own → Option Fault → List ℕ
-warnings name owns fault = notes name owns ++ fault_line name fault
+-- The notes on a table of these bytes are printed, and what is wrong with it.
+pub record Warns (name : List ℕ) (owns : List Own) (bytes : List ℕ) (fault : Option Fault) (err err' : Option (List ℕ)) : Type 0 where
+  pub told : List ℕ
+  pub are : AreNotes name bytes owns told
+  pub printed : Appends err err' (told ++ fault_line name fault)
 
 -- the line after these of a table that isn't written
 abbrev pub held_line : List ℕ → List ℕ
@@ -48,7 +37,7 @@ pub record Passes (force : Bool) (name : List ℕ) (owns : List Own) (bytes : Li
   pub fault : Option Fault
   pub checked : IsChecked owns bytes fault
   pub right : (force ≡ true) ⊎ ((owns ≡ []) × (fault ≡ None))
-  pub noted : Appends err err' (warnings name owns fault)
+  pub noted : Warns name owns bytes fault err err'
 
 -- A made table isn't to be written: its numbers are wrong, or it is wrong itself, and lines say so.
 pub record Stays (force : Bool) (name : List ℕ) (owns : List Own) (bytes : List ℕ) (err err' : Option (List ℕ)) : Type 0 where
@@ -56,7 +45,9 @@ pub record Stays (force : Bool) (name : List ℕ) (owns : List Own) (bytes : Lis
   pub checked : IsChecked owns bytes fault
   pub wrong : (owns ≢ []) ⊎ (fault ≢ None)
   pub no_force : force ≡ false
-  pub noted : Appends err err' (warnings name owns fault ++ held_line name)
+  pub between : Option (List ℕ)
+  pub noted : Warns name owns bytes fault err between
+  pub held : Appends between err' (held_line name)
 
 -- whether it is to be written
 abbrev pub IsJudged : Bool → List ℕ → List Own → List ℕ → Option (List ℕ) → Option (List ℕ) → Bool → Type 0

@@ -1,12 +1,9 @@
 //! The fields in which the tables in two files differ.
 
-ghost use Rattle.std.specs.Prelude.{◌≡◌, ◌≤◌, ℕ, List, [], ◌∷◌, ◌++◌, codes, map, IfOk, OnOk, string_bytes};
+ghost use Rattle.std.specs.Prelude.{◌≡◌, ◌≤◌, ℕ, List, [], ◌∷◌, ◌++◌, codes, IfOk, OnOk, string_bytes};
 ghost use Rattle.std.specs.Io.KnownBytes.{Appends};
 ghost use Rattle.acpi_forms.specs.Kind.{kind_of};
-ghost use Rattle.acpi_forms.specs.File.{file_names};
-ghost use Rattle.acpi_forms.specs.Named.{IsNamed};
-ghost use Rattle.acpi_rules.specs.Field.{seen};
-ghost use Rattle.acpitool_program.specs.Comparing.{AreFields, signatures_line, or_nameless, AreDifferences};
+ghost use Rattle.acpitool_program.specs.Comparing.{signatures_line, or_nameless, AreDifferences};
 ghost use Rattle.acpitool_program.specs.Comparing.{IsComparison, comparison_status, ComparesBytes};
 ghost use Rattle.acpitool_program.specs.Comparing.{ComparesWith, Compares};
 ghost use Rattle.acpitool_program.specs.Fault.{line_of};
@@ -14,32 +11,17 @@ ghost use Rattle.acpitool_program.specs.Text.{IsKind};
 
 use crate::complaint::complain;
 use crate::fault::Fault;
+use crate::fields::fields_in;
 use crate::files::read_word;
 use crate::outcome::tell_unread;
 use crate::text::check_kind;
-use acpi_forms::file::{file_form, file_walk};
 use acpi_forms::kind::title_of;
 use acpi_read::report::push_shown;
 use acpi_rules::difference::differences_of;
-use acpi_rules::field::Field;
-use acpi_rules::table::fields_of;
-use acpi_text::form::TableForm;
 use std::alloc::{AllocError, Global};
 use std::io;
 use std::io::{Input, Write};
 use std::rt::Files;
-
-// Returns the fields of a table, a pointer or a control structure, by their form.
-fn by_form<'a>(
-    alloc: Global,
-    form: &TableForm,
-    bytes: &'a [u8],
-) -> Result<Vec<Field<'a>>, AllocError>
-    ensures { IsNamed form.now (file_names bytes.now) → IfOk result (λ fields. AreFields bytes.now (map seen fields.items)) }
-{
-    let fields = fields_of(alloc, form, file_walk(bytes), bytes)?;
-    Ok(fields)
-}
 
 // Returns the line of tables with different signatures.
 fn signatures_line(alloc: Global, a: &[u8], b: &[u8]) -> Result<String, AllocError>
@@ -69,8 +51,8 @@ fn differences(alloc: Global, a: &[u8], b: &[u8]) -> Result<String, AllocError>
     requires second { IsKind (kind_of b.now) b.now }
     ensures { IfOk result (λ text. AreDifferences a.now b.now (string_bytes text)) }
 {
-    let first = by_form(alloc, &file_form(a), a)?;
-    let second = by_form(alloc, &file_form(b), b)?;
+    let first = fields_in(alloc, a)?;
+    let second = fields_in(alloc, b)?;
     let lines = differences_of(alloc, &first, &second)?;
     or_nameless(alloc, lines)
 }

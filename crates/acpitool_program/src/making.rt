@@ -4,7 +4,7 @@ ghost use Rattle.std.specs.Prelude.{◌≡◌, ◌≢◌, ◌⊎◌, ◌++◌, [
 ghost use Rattle.std.specs.Bool.{MatchBool};
 ghost use Rattle.std.specs.Option.{option_map};
 ghost use Rattle.std.specs.Io.KnownBytes.{Appends};
-ghost use Rattle.acpitool_program.specs.Making.{note, notes, IsChecked, warnings, held_line, IsJudged, same_line};
+ghost use Rattle.acpitool_program.specs.Making.{IsChecked, Warns, held_line, IsJudged, same_line};
 ghost use Rattle.acpitool_program.specs.Making.{not_made, MadeOrNot, Saved, NotSaved};
 ghost use Rattle.acpitool_program.specs.Making.{IsWritten, MakesOf, MakesText, MakesWord, Makes};
 ghost use Rattle.acpitool_program.specs.Replaced.{is_same_path};
@@ -14,6 +14,7 @@ use crate::complaint::complain;
 use crate::fault::Fault;
 use crate::files::{is_same_file, read_word, write_file};
 use crate::hint::{meant_in, push_hint};
+use crate::noted::print_notes;
 use crate::outcome::{tell_fault, tell_unread};
 use crate::structures::wrong_with;
 use acpi_compile::block::is_asl;
@@ -36,27 +37,6 @@ struct Making<'a> {
     file: &'a str,
 }
 
-// Prints a number that a text states otherwise, and the number that would be right.
-fn print_note<E: Write>(name: &str, own: &Own, err: &mut E) -> io::Result<()>
-    ensures { OnOk result (Appends (E.contents err.old) (E.contents err.new) (note name.now own.now)) }
-{
-    let (offset, number) = (own.offset, own.number);
-    writeln!(
-        err,
-        "{name}: note: {number} would be right at offset {offset}"
-    )
-}
-
-// Prints the numbers that a text states otherwise.
-fn print_notes<E: Write>(name: &str, owns: &[Own], err: &mut E) -> io::Result<()>
-    ensures { OnOk result (Appends (E.contents err.old) (E.contents err.new) (notes name.now owns.now)) }
-{
-    'owns: for own in owns {
-        print_note(name, own, err)?;
-    }
-    Ok(())
-}
-
 // Returns what is wrong with a table whose numbers are right.
 fn check(alloc: Global, owns: &[Own], bytes: &[u8]) -> Result<Option<Fault>, AllocError>
     ensures { IfOk result (IsChecked owns.now bytes.now) }
@@ -72,28 +52,21 @@ fn warn<E: Write>(
     alloc: Global,
     name: &str,
     owns: &[Own],
+    bytes: &[u8],
     fault: &Option<Fault>,
     err: &mut E,
 ) -> io::Result<()>
-    ensures { OnOk result (Appends (E.contents err.old) (E.contents err.new) (warnings name.now owns.now fault.now)) }
+    ensures { OnOk result (Warns name.now owns.now bytes.now fault.now (E.contents err.old) (E.contents err.new)) }
 {
-    print_notes(name, owns, err)?;
+    print_notes(alloc, name, owns, bytes, err)?;
     tell_fault(alloc, name, fault, err)?;
     Ok(())
 }
 
-// Prints the notes on a table, what is wrong with it, and that it isn't written.
-fn tell_held<E: Write>(
-    alloc: Global,
-    name: &str,
-    owns: &[Own],
-    fault: &Option<Fault>,
-    err: &mut E,
-) -> io::Result<()>
-    ensures { OnOk result (Appends (E.contents err.old) (E.contents err.new)
-        (warnings name.now owns.now fault.now ++ held_line name.now)) }
+// Prints that a table isn't written.
+fn tell_held<E: Write>(name: &str, err: &mut E) -> io::Result<()>
+    ensures { OnOk result (Appends (E.contents err.old) (E.contents err.new) (held_line name.now)) }
 {
-    warn(alloc, name, owns, fault, err)?;
     writeln!(err, "{name}: not written (make --force writes it)")
 }
 
@@ -118,11 +91,11 @@ fn judge<E: Write>(
     ensures { IfOk result (IsJudged force name.now owns.now bytes.now (E.contents err.old) (E.contents err.new)) }
 {
     let fault = check(alloc, owns, bytes)?;
+    warn(alloc, name, owns, bytes, &fault, err)?;
     if is_held(force, owns, &fault) {
-        tell_held(alloc, name, owns, &fault, err)?;
+        tell_held(name, err)?;
         return Ok(false);
     }
-    warn(alloc, name, owns, &fault, err)?;
     Ok(true)
 }
 

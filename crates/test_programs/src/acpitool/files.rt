@@ -107,7 +107,7 @@ pub const WRONG: &str =
     "  : \"OEMX\"\n  Length: 0000002c\n  : 01 85 \"FOOBAR\" \"CAFEDEAD\" 00000001 \"RVAT\" 01000000\n";
 
 // What is printed on its number, and that it isn't written.
-const NOTE: &str = "wrong: note: 36 would be right at offset 4\n";
+const NOTE: &str = "wrong: note at 4: Length: 36 would be right\n";
 
 const HELD: &str = "wrong: not written (make --force writes it)\n";
 

@@ -239,7 +239,7 @@ of the line\n";
     ends(&rt, &words, 1, &[], &[line])?;
     write(&rt, path, WRONG.as_bytes())?;
     let lines = [
-        "no_texts/a.txt: note: 36 would be right at offset 4\n",
+        "no_texts/a.txt: note at 4: Length: 36 would be right\n",
         "no_texts/a.txt: not written (make --force writes it)\n",
     ];
     ends(&rt, &words, 1, &[], &lines)
