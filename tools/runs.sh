@@ -104,8 +104,8 @@ wait
 cmp "$work/made" "$work/printed"
 [ -p "$work/pipe" ]
 
-# An Arm machine: what acpiread prints for its tables, and its image, which has no FACS. acpiread knows the structures of the
-# tables of the Rust crate alone, and so none of GTDT, DBG2 and IORT.
+# An Arm machine: what acpiread prints for its tables, and its image, which has no FACS, from standard input. acpiread knows the
+# structures of the tables of the Rust crate alone, and so none of GTDT, DBG2 and IORT.
 mkdir "$work/arm"
 expect "$(crates/acpi_example/out/acpi_example arm "$work/arm" 40000000)" 'base 0x40000000 RSDP 0x40000600'
 arm_reads() {
@@ -126,7 +126,7 @@ arm_reads dbg2 'DBG2 length 92 revision 0 sum 0'
 arm_reads mcfg 'MCFG length 60 revision 1 sum 0
 44 entry size 16'
 arm_reads iort 'IORT length 220 revision 5 sum 0'
-lines=$("$tool" image "$work/arm/image" 40000000) || true
+lines=$("$tool" image - 40000000 <"$work/arm/image") || true
 echo "$lines"
 expect "$lines" '0x40000600 RSD  length 36 revision 2
 0x400005a0 XSDT length 92 revision 1
