@@ -6,21 +6,15 @@ ghost use Rattle.std.specs.Fmt.{decimal};
 ghost use Rattle.std.specs.Option.{option_map};
 ghost use Rattle.acpi_base.specs.Bytes.{carried};
 ghost use Rattle.acpi_base.specs.Look.{Part, part_of, bits_of, words_of, look_of};
-ghost use Rattle.acpi_text.specs.Label.{all_print, prints, label};
+ghost use Rattle.acpi_text.specs.Label.{all_print, label};
 ghost use Rattle.acpi_text.specs.Note.{decimal_text, trimmed, find_word, word_text, said, without, rest_text, bits_text};
 ghost use Rattle.acpi_text.specs.Note.{number_meaning, quoted, meaning};
 
 use crate::hex::push_bytes;
-use crate::space::push_label;
+use crate::space::{prints, push_label};
 use acpi_base::row::{Bits, Look, Word};
 use itoa::Buffer;
 use std::alloc::AllocError;
-
-fn prints(byte: u8) -> bool
-    ensures { result ≡ prints byte }
-{
-    (0x20..=0x7e).contains(&byte)
-}
 
 /// Returns whether all bytes print.
 pub fn all_print(bytes: &[u8]) -> bool

@@ -26,11 +26,18 @@ pub fn push_level(depth: u8, text: &mut String) -> Result<(), AllocError>
     Ok(())
 }
 
+/// Returns whether a byte is a character of ASCII that prints.
+pub fn prints(byte: u8) -> bool
+    ensures { result ≡ prints byte }
+{
+    (0x20..=0x7e).contains(&byte)
+}
+
 // Returns whether a byte prints and isn't a colon.
 fn is_label_byte(byte: u8) -> bool
     ensures { result ≡ (prints byte && not (byte == 58)) }
 {
-    (0x20..=0x7e).contains(&byte) && byte != b':'
+    prints(byte) && byte != b':'
 }
 
 // Returns whether all bytes print and none is a colon.
