@@ -10,6 +10,7 @@ pub mod Numbers
 pub mod Fields
 pub mod Making
 pub mod Truth
+mod Values
 pub mod Compared
 pub mod Order
 pub mod Listed
