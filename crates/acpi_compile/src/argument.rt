@@ -58,7 +58,7 @@ pub fn dword_at(node: &Node<'_>) -> Result<u32, AslError> {
 pub fn below(node: &Node<'_>, limit: u8) -> Result<u8, AslError> {
     match decimal(node.word) {
         Some(number) if number < u32::from(limit) && node.is_alone() => Ok(number as u8),
-        _ => Err(fault(node.at, Why::Number)),
+        _ => Err(fault(node.at, Why::Count)),
     }
 }
 

@@ -14,7 +14,7 @@ use crate::squeeze::{is_word, squeezed, word_at};
 use crate::stated::stated;
 use crate::term::{Context, statements};
 use crate::word::dword_of;
-use acpi_asl::block::{BlockText, has_terms, text_of_block};
+use acpi_asl::block::{BlockText, has_terms, text_in_part, text_of_block};
 use acpi_base::sdt::Sdt;
 use acpi_read::table::Table;
 use acpi_term::name_string::Arities;
@@ -74,10 +74,10 @@ fn header(alloc: Global, node: &Node<'_>) -> Result<Sdt, AslError> {
         return Err(fault(node.at, Why::Arguments));
     };
     let Some(number) = decimal(revision.word) else {
-        return Err(fault(revision.at, Why::Number));
+        return Err(fault(revision.at, Why::Count));
     };
     let Ok(number) = u8::try_from(number) else {
-        return Err(fault(revision.at, Why::Number));
+        return Err(fault(revision.at, Why::Count));
     };
     let Some(oem_number) = dword_of(oem_revision) else {
         return Err(fault(oem_revision.at, Why::Number));
@@ -132,14 +132,37 @@ fn after_note(kept: &[u8]) -> &[u8]
 }
 
 // The ASL of a block, in which names take these numbers of arguments, without what a compiler skips.
-fn shown(alloc: Global, at: usize, called: &Arities, block: &[u8]) -> Result<Vec<u8>, AslError>
+fn shown(alloc: Global, kept: &[u8], called: &Arities, block: &[u8]) -> Result<Vec<u8>, AslError>
     requires { 36 ≤ length block.now }
     ensures { IfOk result (λ kept. IsKeptOf called.now block.now kept.items) }
 {
     match text_of_block(alloc, BlockText::Asl, called, &[], block) {
         Ok(text) => Ok(squeezed(alloc, text.as_bytes())?),
         Err(ReadError::Memory) => Err(AslError::Memory),
-        Err(_) => Err(fault(at, Why::Otherwise(Vec::new(alloc)))),
+        Err(_) => Err(unreadable(alloc, kept, called, block)?),
+    }
+}
+
+// The fault of a block of which not all can be read, at the first word of the text that the ASL of the rest doesn't have.
+fn unreadable(
+    alloc: Global,
+    kept: &[u8],
+    called: &Arities,
+    block: &[u8],
+) -> Result<AslError, AslError>
+    requires { 36 ≤ length block.now }
+{
+    let text = text_in_part(alloc, BlockText::Asl, called, &[], block)?;
+    let shown = squeezed(alloc, text.as_bytes())?;
+    Ok(fault(place_of(beside(&shown, kept), kept), Why::Unreadable))
+}
+
+// The ASL of a block, with the note on the program that made it only if the text has one.
+fn beside<'a>(shown: &'a [u8], kept: &[u8]) -> &'a [u8] {
+    if kept.starts_with(b"/*=") {
+        shown
+    } else {
+        after_note(shown)
     }
 }
 
@@ -174,16 +197,57 @@ fn place_of(shown: &[u8], kept: &[u8]) -> usize {
     at
 }
 
+// The place after a space, if one stands there.
+fn past_space(kept: &[u8], at: usize) -> usize {
+    match kept.get(at) {
+        Some(b' ') => at.saturating_add(1),
+        _ => at,
+    }
+}
+
+// The last segment of a path.
+fn last_segment(path: &[u8]) -> &[u8] {
+    let mut start = 0;
+    'path: for (i, c) in path.iter().enumerate() {
+        if *c == b'.' || *c == b'^' || *c == b'\\' {
+            start = i.saturating_add(1);
+        }
+    }
+    path.get(start..).unwrap_or(&[])
+}
+
+// Whether a word begins at a place.
+fn begins_word(kept: &[u8], at: usize) -> bool {
+    match at.checked_sub(1) {
+        Some(before) => is_word_at(kept, at) && !is_word_at(kept, before),
+        None => is_word_at(kept, at),
+    }
+}
+
+// The first word from a place on whose last segment is this one, or else the place.
+fn use_of(kept: &[u8], from: usize, segment: &[u8]) -> usize {
+    let mut found = from;
+    let mut is_found = false;
+    'characters: for at in from..kept.len() {
+        if !is_found && begins_word(kept, at) && last_segment(word_at(at, kept)) == segment {
+            found = at;
+            is_found = true;
+        }
+    }
+    found
+}
+
 // The fault of a text at its first word that the ASL of the block doesn't have.
 fn unlike(alloc: Global, shown: &[u8], kept: &[u8]) -> Result<AslError, AslError> {
     let at = place_of(shown, kept);
     let rest = shown.get(at..).unwrap_or(&[]);
     if let Some(rest) = after(rest, b"/*= Absent */External(") {
         let name = Vec::from_slice(alloc, word_at(0, rest))?;
+        let at = use_of(kept, at, last_segment(&name));
         return Ok(fault(at, Why::Undeclared(name)));
     }
     let word = Vec::from_slice(alloc, word_at(at, shown))?;
-    Ok(fault(at, Why::Otherwise(word)))
+    Ok(fault(past_space(kept, at), Why::Otherwise(word)))
 }
 
 // Refuses a block whose ASL is another text.
@@ -202,18 +266,14 @@ fn check(
     if !has_terms(block) || Table::check(block).is_err() {
         return Err(fault(at, Why::Block));
     }
-    let shown = shown(alloc, at, called, block)?;
+    let shown = shown(alloc, kept, called, block)?;
     if shown.as_slice() == kept {
         return Ok(());
     }
-    let noteless = after_note(&shown);
-    if noteless == kept {
+    if after_note(&shown) == kept {
         return Ok(());
     }
-    if kept.starts_with(b"/*=") {
-        return Err(unlike(alloc, &shown, kept)?);
-    }
-    Err(unlike(alloc, noteless, kept)?)
+    Err(unlike(alloc, beside(&shown, kept), kept)?)
 }
 
 /// Makes a text into the definition block that it is the ASL of.
@@ -222,11 +282,14 @@ pub fn compile(alloc: Global, text: &[u8]) -> Result<Vec<u8>, AslError>
 {
     let kept = squeezed(alloc, text)?;
     let nodes = nodes_of(alloc, &kept)?;
-    let [node] = nodes.as_slice() else {
+    let [node, rest @ ..] = nodes.as_slice() else {
         return Err(fault(0, Why::Block));
     };
     if !matches!(node.word, b"DefinitionBlock") {
-        return Err(fault(0, Why::Block));
+        return Err(fault(node.at, Why::Block));
+    }
+    if let [next, ..] = rest {
+        return Err(fault(next.at, Why::Block));
     }
     let body = list_of(&node.body);
     let list = statements(&Context::new(alloc)?, MAX_LISTS, body)?;

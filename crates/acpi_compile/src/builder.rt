@@ -185,6 +185,7 @@ fn step<'a>(
     c: u8,
 ) -> Result<Part, AslError> {
     match part {
+        Part::Text(from) | Part::Escape(from) if c == b'\n' => Err(fault(from, Why::Unfinished)),
         Part::Text(from) if c == b'"' => {
             builder.word(from, between(text, from, i.saturating_add(1)))?;
             Ok(Part::Mark)

@@ -32,6 +32,15 @@ fn width_of(node: &Node<'_>, n: usize) -> u8 {
     }
 }
 
+// A number of bits that a length can say (ACPI 6.5, 20.2.4).
+fn encoded(node: &Node<'_>, bits: u32) -> Result<u32, AslError> {
+    if bits < 0x1000_0000 {
+        Ok(bits)
+    } else {
+        Err(fault(node.at, Why::TooLong))
+    }
+}
+
 impl Entries {
     fn add(&mut self, entry: TermEntry, size: usize) -> Result<(), AslError> {
         self.entries.push(entry)?;
@@ -54,6 +63,7 @@ impl Entries {
         if !node.is_alone() {
             return Err(wrong(node));
         }
+        let bits = encoded(node, bits)?;
         if name.is_absent() {
             return self.reserved(name, bits);
         }
@@ -78,7 +88,7 @@ impl Entries {
         };
         let bits = byte.value.saturating_mul(8).saturating_sub(self.bit);
         match u32::try_from(bits) {
-            Ok(bits) => self.reserved(node, bits),
+            Ok(bits) => self.reserved(node, encoded(node, bits)?),
             Err(_) => Err(wrong(node)),
         }
     }

@@ -24,8 +24,10 @@ pub enum Why {
     TooDeep,
     /// A term has other arguments.
     Arguments,
-    /// A number has another form: `0x` and two, four, eight or sixteen hexadecimal digits, or decimal digits of a count.
+    /// A number has another form than `0x` and two, four, eight or sixteen hexadecimal digits.
     Number,
+    /// A count has another form than decimal digits, or is too large.
+    Count,
     /// A string has another form, or more characters than its place.
     Text,
     /// A word is neither a keyword nor a name.
@@ -40,6 +42,8 @@ pub enum Why {
     Note,
     /// A note has bytes that can't be read as terms.
     Unread,
+    /// Terms that can't be read again: a call lacks arguments, or terms are nested too deep.
+    Unreadable,
     /// A list, a number or a table is too long.
     TooLong,
     /// The block has no object of this name, and the text has no External statement for it.
@@ -102,8 +106,9 @@ impl Why {
             Why::Unfinished => text.push_str("a parenthesis, a brace or a string has no end"),
             Why::TooDeep => text.push_str("nested too deep"),
             Why::Arguments => text.push_str("other arguments are expected"),
-            Why::Number => text.push_str(
-                "a number is expected: 0x and 2, 4, 8 or 16 digits, or a count in decimal digits",
+            Why::Number => text.push_str("a number is expected: 0x and 2, 4, 8 or 16 digits"),
+            Why::Count => text.push_str(
+                "a number in decimal digits is expected, and none above its limit",
             ),
             Why::Text => text.push_str("a string is expected, with as many characters as fit"),
             Why::Word => text.push_str("neither a keyword nor a name"),
@@ -114,6 +119,9 @@ impl Why {
             ),
             Why::Note => text.push_str("the note isn't known here"),
             Why::Unread => text.push_str("bytes that aren't read make no block"),
+            Why::Unreadable => text.push_str(
+                "no terms from here on: a call may lack arguments, or terms are nested too deep",
+            ),
             Why::TooLong => text.push_str("a length or a number is too large"),
             Why::Undeclared(name) => push_undeclared(name, text),
             Why::Otherwise(word) => push_otherwise(word, text),

@@ -69,8 +69,8 @@ enum Escape {
     Digit(u8),
 }
 
-/// The bytes of a string between quotation marks, or none if it has another form. A byte that doesn't print is `\x` and two
-/// digits (ACPI 6.5, 19.2.4).
+/// The bytes of a string between quotation marks, or none if it has another form, or characters that don't print. A byte that
+/// doesn't print is `\x` and two digits (ACPI 6.5, 19.2.4).
 pub fn string(alloc: Global, word: &[u8]) -> Result<Option<Vec<u8>>, AllocError> {
     let [b'"', inside @ .., b'"'] = word else {
         return Ok(None);
@@ -79,6 +79,7 @@ pub fn string(alloc: Global, word: &[u8]) -> Result<Option<Vec<u8>>, AllocError>
     let mut escape = Escape::Absent;
     'characters: for c in inside {
         escape = match escape {
+            _ if !(0x20..=0x7e).contains(c) => return Ok(None),
             Escape::Absent if *c == b'\\' => Escape::Begun,
             Escape::Absent => {
                 bytes.push(*c)?;

@@ -72,7 +72,7 @@ is_signed Cdat bytes = true
 abbrev pub is_text_byte : ℕ → Bool
 is_text_byte c = prints c || c == 9 || c == 10 || c == 13
 
--- Whether all bytes are. Those of a table aren't: the length of a table is less than 0x20202020.
+-- Whether all bytes are. Those of a table of less than 0x09090909 bytes aren't: the last byte of its length is below 9.
 abbrev pub is_plain_text : List ℕ → Bool
 is_plain_text [] = true
 is_plain_text (c ∷ bytes) = is_text_byte c && is_plain_text bytes

@@ -13,6 +13,7 @@ use acpi_base::sum::Sum;
 use acpi_dump::dump::is_dump;
 use acpi_forms::kind::kind_of;
 use acpi_make::file_kind::FileKind;
+use acpi_text::space::prints;
 use std::alloc::{AllocError, Global};
 use std::fmt;
 
@@ -129,7 +130,7 @@ fn is_signed(kind: FileKind, bytes: &[u8]) -> bool
 fn is_text_byte(byte: u8) -> bool
     ensures { result ≡ is_text_byte byte }
 {
-    (0x20..=0x7e).contains(&byte) || byte == b'\t' || byte == b'\n' || byte == b'\r'
+    prints(byte) || byte == b'\t' || byte == b'\n' || byte == b'\r'
 }
 
 // Returns whether all bytes are.
