@@ -1,5 +1,5 @@
 -- Names of bits, one after another.
-use Rattle.std.proofs.Common.{◌≡◌, ℕ, suc, ◌-◌, ◌<◌, ◌==◌, if◌then◌else◌, bit_and, bit_or, List, Option, None, ap, sym, ◌∙◌, arith}
+use Rattle.std.proofs.Common.{◌≡◌, ℕ, suc, ◌-◌, ◌<◌, ◌==◌, if◌then◌else◌, bit_and, bit_or, List, None, ap, sym, ◌∙◌, arith}
 use Rattle.acpi_base.specs.Look.{Part}
 use Rattle.acpi_make.specs.Value.{Front, more, front_part, and_more, joined}
 

@@ -1,6 +1,10 @@
 -- Which number of a text is the cause, where its lines aren't those of the text that shows the table.
-use Rattle.std.specs.Prelude.{ℕ, nat_le, ◌&&◌, if◌then◌else◌, List, [], ◌∷◌, Option, Some, None}
-use Rattle.acpi_make.specs.Draft.{or_fault}
+use Rattle.std.specs.Prelude.{ℕ, ◌-◌, nat_le, ◌&&◌, Bool, true, false, if◌then◌else◌, List, [], ◌∷◌, length, take}
+use Rattle.std.specs.Prelude.{Option, Some, None, Result, Ok, Err}
+use Rattle.acpi_base.specs.Bytes.{le, put}
+use Rattle.acpi_base.specs.declared.walk.Walk.{Walk}
+use Rattle.acpi_make.specs.Compare.{difference}
+use Rattle.acpi_make.specs.Draft.{Drafted, or_fault}
 use Rattle.acpi_make.specs.Fault.{Fault}
 use Rattle.acpi_make.specs.Notes.{is_untrue}
 use Rattle.acpi_make.specs.Another.{another_at}
@@ -19,7 +23,37 @@ abbrev pub another_own : Source → List Mark → Option Own → Option Fault
 another_own s marks (Some one) = another_at s marks one.offset one.number
 another_own s marks None = None
 
--- What is wrong with a text whose lines are others: a number that isn't right, if there is one.
-abbrev pub blamed : Source → List Mark → List Own → List ℕ → Option Fault → Option Fault
-blamed s marks owns bytes (Some wrong) = Some (or_fault (another_own s marks (first_untrue owns bytes)) wrong)
-blamed s marks owns bytes None = None
+-- ---- the right numbers
+
+-- whether the field of a number is within this many bytes
+abbrev pub has_field : Own → ℕ → Bool
+has_field one size = nat_le one.width 8 && nat_le one.offset size && nat_le one.width (size - one.offset)
+
+-- the bytes with a number in its field, if the field is there
+abbrev pub with_number : Own → List ℕ → List ℕ
+with_number one bytes =
+    if has_field one (length bytes) then put one.offset (take one.width (le 8 one.number)) bytes else bytes
+
+abbrev pub with_numbers : List Own → List ℕ → List ℕ
+with_numbers [] bytes = bytes
+with_numbers (one ∷ owns) bytes = with_numbers owns (with_number one bytes)
+
+-- whether a text has the lines of the text that shows a table
+abbrev pub has_lines : Result (Option Fault) Fault → Bool
+has_lines (Ok None) = true
+has_lines (Ok (Some wrong)) = false
+has_lines (Err wrong) = false
+
+-- ---- the cause
+
+-- a number that isn't right, if the text has the lines of the table with the right numbers, or else a line
+abbrev pub cause : Bool → Option Fault → Fault → Fault
+cause true number wrong = or_fault number wrong
+cause false number wrong = wrong
+
+-- What is wrong with a text whose lines are others than those of the table of these bytes.
+abbrev pub blamed : Option Walk → Source → Drafted → List Own → List ℕ → Option Fault → Option Fault
+blamed walk s d owns bytes (Some wrong) =
+    Some (cause (has_lines (difference walk s d (with_numbers owns bytes)))
+    (another_own s d.marks (first_untrue owns bytes)) wrong)
+blamed walk s d owns bytes None = None

@@ -4,7 +4,6 @@ use Rattle.std.specs.Prelude.{List, [], ◌∷◌, ◌++◌, length, drop, repli
 use Rattle.acpi_base.specs.Bytes.{le}
 use Rattle.acpi_text.specs.Structure.{all_forms, form_parts, form_inner}
 use Rattle.acpi_text.specs.declared.form.Inner.{Inner}
-use Rattle.acpi_text.specs.declared.form.Inner.TheVariants.{Nothing}
 use Rattle.acpi_text.specs.declared.form.Part.{Part}
 use Rattle.acpi_text.specs.declared.form.StructureForm.{StructureForm}
 use Rattle.acpi_make.specs.Entry.{Entry, entry_of, parts_entries, inner_entries, is_line_of, find_entry, next_entry, next_number}

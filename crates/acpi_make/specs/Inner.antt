@@ -1,5 +1,5 @@
 -- The numbers that a structure has of those within it, and that these have of themselves.
-use Rattle.std.specs.Prelude.{ℕ, zero, suc, ◌+◌, ◌-◌, ◌/◌, ◌==◌, if◌then◌else◌, List, [], ◌∷◌, ◌++◌, Option, Some, None}
+use Rattle.std.specs.Prelude.{ℕ, ◌+◌, ◌-◌, ◌/◌, ◌==◌, if◌then◌else◌, List, [], ◌∷◌, ◌++◌, Option, Some, None}
 use Rattle.std.specs.List.{flat_map}
 use Rattle.acpi_text.specs.declared.form.Count.{Count}
 use Rattle.acpi_text.specs.declared.form.Count.TheVariants as counts

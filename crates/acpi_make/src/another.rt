@@ -1,7 +1,6 @@
 //! The number that has to stand in the field of a line, where the text states another.
 
 ghost use Rattle.std.specs.Prelude.{◌≡◌, None};
-ghost use Rattle.acpi_make.specs.Blamed.{first_untrue, another_own, blamed};
 ghost use Rattle.acpi_make.specs.Draft.{fault_in};
 ghost use Rattle.acpi_make.specs.Entry.{found_of};
 ghost use Rattle.acpi_make.specs.Another.{last_line, another_of, another_in, another_at, is_other, is_other_type};
@@ -10,11 +9,9 @@ ghost use Rattle.acpi_make.specs.Source.{source_of};
 
 use crate::draft::{Mark, Source};
 use crate::entry::{Field, find_anywhere};
-use crate::extent::Own;
 use crate::fault::Fault;
 use crate::heading::{are_known, by_heading, has_number};
 use crate::item::Cell;
-use crate::notes::is_untrue;
 use crate::text::{after_offset, are_white, part_at};
 use acpi_base::walk::Place;
 use acpi_text::form::StructureForm;
@@ -62,8 +59,8 @@ fn another_in(source: &Source, number: usize, line: Option<(usize, usize)>) -> O
     another_of(from, to, number, find_anywhere(name, &source.form))
 }
 
-// Returns the fault of the line at an offset, whose field has to have this number.
-fn another_at(source: &Source, marks: &[Mark], offset: usize, number: usize) -> Option<Fault>
+/// Returns the fault of the line at an offset, whose field has to have this number.
+pub fn another_at(source: &Source, marks: &[Mark], offset: usize, number: usize) -> Option<Fault>
     ensures { fault_in result ≡ another_at (source_of source.now) marks.now offset number }
 {
     another_in(source, number, last_line(offset, marks))
@@ -126,45 +123,4 @@ pub fn misnamed(
         cells,
         by_heading(heading, &source.form),
     )
-}
-
-// Returns the first number that isn't in its field after the standard header.
-fn first_untrue(owns: &[Own], bytes: &[u8]) -> Option<Own>
-    ensures { result ≡ first_untrue owns.now bytes.now }
-{
-    'owns: for own in owns {
-        if 36 <= own.offset && is_untrue(own, bytes) {
-            return Some(*own);
-        }
-    }
-    None
-}
-
-// Returns the fault of the line of a number.
-fn another_own(source: &Source, marks: &[Mark], own: Option<Own>) -> Option<Fault>
-    ensures { fault_in result ≡ another_own (source_of source.now) marks.now own }
-{
-    match own {
-        Some(own) => another_at(source, marks, own.offset, own.number),
-        None => None,
-    }
-}
-
-/// Returns what is wrong with a text whose lines are others: a number that isn't right, if there is one.
-pub fn blamed(
-    source: &Source,
-    marks: &[Mark],
-    owns: &[Own],
-    bytes: &[u8],
-    wrong: Option<Fault>,
-) -> Option<Fault>
-    ensures { fault_in result ≡ blamed (source_of source.now) marks.now owns.now bytes.now (fault_in wrong) }
-{
-    let Some(wrong) = wrong else {
-        return None;
-    };
-    match another_own(source, marks, first_untrue(owns, bytes)) {
-        Some(fault) => Some(fault),
-        None => Some(wrong),
-    }
 }

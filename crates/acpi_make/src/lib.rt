@@ -3,6 +3,7 @@
 #![tactic(auto)]
 
 pub mod another;
+mod blamed;
 pub mod compare;
 pub mod complete;
 pub mod draft;

@@ -9,7 +9,7 @@ ghost use Rattle.acpi_make.specs.Gives.{Gives};
 ghost use Rattle.acpi_make.specs.Made.{Table, type_place, sizes_own, numbers_own, finished, or_doubt, made, table_of};
 ghost use Rattle.acpi_make.specs.Source.{source_of};
 
-use crate::another::blamed;
+use crate::blamed::blamed;
 use crate::compare::difference;
 use crate::complete::{complete, length_own};
 use crate::draft::{Draft, Source, draft_of};
@@ -106,7 +106,7 @@ fn finish(
     }
     let bytes = complete_all(alloc, file_kind, walk, draft, &owns)?;
     let wrong = difference(alloc, walk, source, draft, &bytes)?;
-    if let Some(fault) = blamed(source, &draft.marks, &owns, &bytes, wrong) {
+    if let Some(fault) = blamed(alloc, walk, source, draft, &owns, &bytes, wrong)? {
         return Err(MakeError::Fault(fault));
     }
     let untrue = notes(alloc, file_kind, &owns, &bytes)?;

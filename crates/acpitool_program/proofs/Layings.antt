@@ -32,8 +32,8 @@ quietly path owns bytes a b judged =
     let are = unforced owns judged.fault judged.right in
     let Q : List Own → Type 0 = λ l. IsChecked l bytes judged.fault in
     let R : Option Fault → Type 0 = λ f. IsSoundOr bytes f in
-    let S : List Own → Type 0 = λ l. AreNotes path bytes l judged.noted.told in
-    let T : Option Fault → Type 0 = λ f. Appends a b (judged.noted.told ++ fault_line path f) in
+    let S : List Own → Type 0 = λ l. AreNotes path bytes l judged.noted.text in
+    let T : Option Fault → Type 0 = λ f. Appends a b (judged.noted.text ++ fault_line path f) in
     let U : List ℕ → Type 0 = λ l. Appends a b (l ++ []) in
     let told = subst S are.0 judged.noted.are in
     (appends_nothing a b (subst U told (subst T are.1 judged.noted.printed)), are.0, subst R are.1 (subst Q are.0 judged.checked))
@@ -96,7 +96,7 @@ held_then path text a b c kept not = record {
     no_force = not.judged.no_force;
     between = not.judged.between;
     noted = record {
-      told = not.judged.noted.told;
+      text = not.judged.noted.text;
       are = not.judged.noted.are;
       printed = keeps_then a b not.judged.between _ kept not.judged.noted.printed;
     };

@@ -22,10 +22,11 @@ IsChecked [] bytes fault = IsSoundOr bytes fault
 IsChecked (one ∷ owns) bytes fault = fault ≡ None
 
 -- The notes on a table of these bytes are printed, and what is wrong with it.
-pub record Warns (name : List ℕ) (owns : List Own) (bytes : List ℕ) (fault : Option Fault) (err err' : Option (List ℕ)) : Type 0 where
-  pub told : List ℕ
-  pub are : AreNotes name bytes owns told
-  pub printed : Appends err err' (told ++ fault_line name fault)
+pub record Warns (name : List ℕ) (owns : List Own) (bytes : List ℕ) (fault : Option Fault)
+    (err err' : Option (List ℕ)) : Type 0 where
+  pub text : List ℕ
+  pub are : AreNotes name bytes owns text
+  pub printed : Appends err err' (text ++ fault_line name fault)
 
 -- the line after these of a table that isn't written
 abbrev pub held_line : List ℕ → List ℕ

@@ -2,12 +2,10 @@
 
 ghost use Rattle.std.specs.Prelude.{◌≡◌, ◌≤◌, ℕ, List, [], ◌∷◌, ◌++◌, codes, IfOk, OnOk, string_bytes};
 ghost use Rattle.std.specs.Io.KnownBytes.{Appends};
-ghost use Rattle.acpi_forms.specs.Kind.{kind_of};
 ghost use Rattle.acpitool_program.specs.Comparing.{signatures_line, or_nameless, AreDifferences};
 ghost use Rattle.acpitool_program.specs.Comparing.{IsComparison, comparison_status, ComparesBytes};
 ghost use Rattle.acpitool_program.specs.Comparing.{ComparesWith, Compares};
 ghost use Rattle.acpitool_program.specs.Fault.{line_of};
-ghost use Rattle.acpitool_program.specs.Text.{IsKind};
 
 use crate::complaint::complain;
 use crate::fault::Fault;
@@ -47,8 +45,6 @@ fn or_nameless(alloc: Global, lines: String) -> Result<String, AllocError>
 
 // Returns the lines of the fields in which two tables differ.
 fn differences(alloc: Global, a: &[u8], b: &[u8]) -> Result<String, AllocError>
-    requires first { IsKind (kind_of a.now) a.now }
-    requires second { IsKind (kind_of b.now) b.now }
     ensures { IfOk result (λ text. AreDifferences a.now b.now (string_bytes text)) }
 {
     let first = fields_in(alloc, a)?;
@@ -59,8 +55,6 @@ fn differences(alloc: Global, a: &[u8], b: &[u8]) -> Result<String, AllocError>
 
 // Returns what is printed of two tables.
 fn comparison(alloc: Global, a: &[u8], b: &[u8]) -> Result<String, AllocError>
-    requires first { IsKind (kind_of a.now) a.now }
-    requires second { IsKind (kind_of b.now) b.now }
     ensures { IfOk result (λ text. IsComparison a.now b.now (string_bytes text)) }
 {
     if a == b {
@@ -81,8 +75,6 @@ fn status_of(text: &str) -> u8
 
 // Prints in which fields two tables differ, and returns the status.
 fn print_comparison<O: Write>(alloc: Global, a: &[u8], b: &[u8], out: &mut O) -> io::Result<u8>
-    requires first { IsKind (kind_of a.now) a.now }
-    requires second { IsKind (kind_of b.now) b.now }
     ensures { IfOk result (λ status. (text : List ℕ) × IsComparison a.now b.now text
         × Appends (O.contents out.old) (O.contents out.new) text × (status ≡ comparison_status text)) }
 {

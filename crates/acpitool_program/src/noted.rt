@@ -79,8 +79,8 @@ pub fn print_notes<E: Write>(
     bytes: &[u8],
     err: &mut E,
 ) -> io::Result<()>
-    ensures { OnOk result ((told : List ℕ) × AreNotes name.now bytes.now owns.now told
-        × Appends (E.contents err.old) (E.contents err.new) told) }
+    ensures { OnOk result ((text : List ℕ) × AreNotes name.now bytes.now owns.now text
+        × Appends (E.contents err.old) (E.contents err.new) text) }
 {
     match owns {
         [] => Ok(()),

@@ -1,4 +1,4 @@
-use Rattle.std.proofs.Common.{◌≡◌, ◌+◌, ◌≤◌, ◌++◌, drop}
+use Rattle.std.proofs.Common.{◌≡◌, ◌+◌, ◌≤◌, drop}
 use Rattle.acpi_make.specs.Inner.{count_titled}
 use Rattle.acpi_make.proofs.inner.count_titled.Given as goal
 

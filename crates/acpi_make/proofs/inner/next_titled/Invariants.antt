@@ -1,4 +1,4 @@
-use Rattle.std.proofs.Common.{◌≡◌, ◌+◌, ◌≤◌, ◌++◌, drop}
+use Rattle.std.proofs.Common.{◌≡◌, drop}
 use Rattle.acpi_make.specs.Inner.{next_titled}
 use Rattle.acpi_make.proofs.inner.next_titled.Given as goal
 

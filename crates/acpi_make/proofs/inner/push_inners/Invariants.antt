@@ -1,4 +1,4 @@
-use Rattle.std.proofs.Common.{◌≡◌, ◌+◌, ◌≤◌, ◌++◌, drop}
+use Rattle.std.proofs.Common.{◌≡◌, ◌++◌, drop}
 use Rattle.acpi_make.specs.Inner.{inners_own}
 use Rattle.acpi_make.proofs.inner.push_inners.Given as goal
 

@@ -1,4 +1,4 @@
-use Rattle.std.proofs.Common.{◌≡◌, ◌+◌, ◌≤◌, ◌++◌, drop}
+use Rattle.std.proofs.Common.{◌≡◌, ◌++◌, drop}
 use Rattle.acpi_make.specs.Inner.{lists_own}
 use Rattle.acpi_make.proofs.inner.push_lists.Given as goal
 

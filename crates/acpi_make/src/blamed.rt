@@ -1,0 +1,115 @@
+//! Which number of a text is the cause, where its lines aren't those of the text that shows the table.
+
+ghost use Rattle.std.specs.Prelude.{◌≡◌, ◌+◌, ◌≤◌, true, length, Option, Result, IfOk};
+ghost use Rattle.acpi_make.specs.Blamed.{first_untrue, another_own, has_field, with_number, with_numbers, has_lines, cause, blamed};
+ghost use Rattle.acpi_make.specs.Draft.{drafted, fault_in};
+ghost use Rattle.acpi_make.specs.Fault as declared;
+ghost use Rattle.acpi_make.specs.Fault.{fault_of};
+ghost use Rattle.acpi_make.specs.Gives.{Gives};
+ghost use Rattle.acpi_make.specs.Source.{source_of};
+
+use crate::another::another_at;
+use crate::compare::difference;
+use crate::draft::{Draft, Mark, Source};
+use crate::extent::Own;
+use crate::fault::{Fault, MakeError};
+use crate::notes::is_untrue;
+use acpi_base::patch::write_at;
+use acpi_base::walk::Walk;
+use std::alloc::{AllocError, Global};
+
+// Returns the first number that isn't in its field after the standard header.
+fn first_untrue(owns: &[Own], bytes: &[u8]) -> Option<Own>
+    ensures { result ≡ first_untrue owns.now bytes.now }
+{
+    'owns: for own in owns {
+        if 36 <= own.offset && is_untrue(own, bytes) {
+            return Some(*own);
+        }
+    }
+    None
+}
+
+// Returns the fault of the line of a number.
+fn another_own(source: &Source, marks: &[Mark], own: Option<Own>) -> Option<Fault>
+    ensures { fault_in result ≡ another_own (source_of source.now) marks.now own }
+{
+    match own {
+        Some(own) => another_at(source, marks, own.offset, own.number),
+        None => None,
+    }
+}
+
+// Returns whether the field of a number is within this many bytes.
+fn has_field(own: &Own, size: usize) -> bool
+    ensures is { result ≡ has_field own.now size }
+    ensures few { result ≡ true → own.now.width ≤ 8 }
+    ensures within { result ≡ true → own.now.offset + own.now.width ≤ size }
+{
+    own.width <= 8 && own.offset <= size && own.width <= size.saturating_sub(own.offset)
+}
+
+// Writes a number into its field, if the field is there.
+fn set_number(own: &Own, bytes: &mut [u8])
+    ensures { bytes.new ≡ with_number own.now bytes.old }
+{
+    if has_field(own, bytes.len()) {
+        write_at(bytes, own.offset, &own.number.to_le_bytes()[..own.width]);
+    }
+}
+
+// Writes numbers into their fields.
+fn set_numbers(owns: &[Own], bytes: &mut [u8])
+    ensures { bytes.new ≡ with_numbers owns.now bytes.old }
+{
+    'owns: for own in owns {
+        set_number(own, bytes);
+    }
+}
+
+// Returns whether a text has the lines of the text that shows a table.
+fn has_lines(outcome: Result<Option<Fault>, MakeError>) -> Result<bool, AllocError>
+    ensures { (meant : Result (Option declared.Fault) declared.Fault) → Gives fault_in outcome meant
+        → IfOk result (λ has. has ≡ has_lines meant) }
+{
+    match outcome {
+        Ok(None) => Ok(true),
+        Ok(Some(_)) => Ok(false),
+        Err(MakeError::Fault(_)) => Ok(false),
+        Err(MakeError::Memory) => Err(AllocError),
+    }
+}
+
+// Returns a number that isn't right, if the text has the lines of the table with the right numbers, or else a line.
+fn cause(has_lines: bool, number: Option<Fault>, wrong: Fault) -> Fault
+    ensures { fault_of result ≡ cause has_lines (fault_in number) (fault_of wrong) }
+{
+    match number {
+        Some(fault) if has_lines => fault,
+        _ => wrong,
+    }
+}
+
+/// Returns what is wrong with a text whose lines are others than those of the table of these bytes: a number that isn't right, if
+/// the lines are those of the table with the right numbers.
+pub fn blamed(
+    alloc: Global,
+    walk: Option<Walk>,
+    source: &Source,
+    draft: &Draft,
+    owns: &[Own],
+    bytes: &[u8],
+    wrong: Option<Fault>,
+) -> Result<Option<Fault>, AllocError>
+    ensures { IfOk result (λ fault. fault_in fault
+        ≡ blamed walk (source_of source.now) (drafted draft.now) owns.now bytes.now (fault_in wrong)) }
+{
+    let Some(wrong) = wrong else {
+        return Ok(None);
+    };
+    let mut right = Vec::from_slice(alloc, bytes)?;
+    set_numbers(owns, &mut right);
+    let is_right = has_lines(difference(alloc, walk, source, draft, &right))?;
+    let number = another_own(source, &draft.marks, first_untrue(owns, bytes));
+    Ok(Some(cause(is_right, number, wrong)))
+}
