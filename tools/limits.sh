@@ -78,6 +78,6 @@ prints 'refused at 4: TableLength' "$read" table "$work/file"
 # Zeros are no image, and no part of a longer file is read as one.
 truncate -s 0 "$work/file"
 truncate -s "$most" "$work/file"
-prints "$work/file: no RSDP at a multiple of 16 bytes" "$tool" image "$work/file"
+prints "$work/file: no valid RSDP at a multiple of 16 bytes" "$tool" image "$work/file"
 truncate -s $((most + 1)) "$work/file"
 prints "$work/file: longer than $most bytes" "$tool" image "$work/file"

@@ -39,7 +39,7 @@ is_base_right base address =
 
 -- its text
 abbrev pub why : ℕ → NoImage → List ℕ
-why base NoPointer = codes "no RSDP at a multiple of 16 bytes"
+why base NoPointer = codes "no valid RSDP at a multiple of 16 bytes"
 why base (Away address) = text_of (Outside address) ++ is_base_right base address
 why base (Wrong fault) = text_of fault
 

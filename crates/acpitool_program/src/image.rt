@@ -397,7 +397,7 @@ pub fn why(alloc: Global, base: u64, fault: &NoImage) -> Result<String, AllocErr
     ensures { IfOk result (λ text. string_bytes text ≡ why base fault.now) }
 {
     match fault {
-        NoImage::NoPointer => format!(in alloc; "no RSDP at a multiple of 16 bytes"),
+        NoImage::NoPointer => format!(in alloc; "no valid RSDP at a multiple of 16 bytes"),
         NoImage::Away(address) => why_away(alloc, base, *address),
         NoImage::Wrong(fault) => format!(in alloc; "{fault}"),
     }

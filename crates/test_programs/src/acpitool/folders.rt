@@ -47,7 +47,7 @@ fn not_unpacked(rt: HostRuntime) -> Result<(), Fail> {
     let line = "other/tables: Not a directory (os error 20)\n";
     ends(&rt, &["unpack", "other", "other/tables"], 1, &[], &[line])?;
     write(&rt, "plain", &TABLE)?;
-    let line = "plain: no RSDP at a multiple of 16 bytes\n";
+    let line = "plain: no valid RSDP at a multiple of 16 bytes\n";
     ends(&rt, &["unpack", "plain", "nowhere"], 1, &[], &[line])
 }
 
