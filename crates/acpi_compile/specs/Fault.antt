@@ -15,11 +15,15 @@ undeclared name = codes "no External statement for " ++ map printable name
 
 abbrev pub words : Why → List ℕ
 words why.Block = codes "a DefinitionBlock is expected, and nothing after it"
+words why.Signature = codes "the signature DSDT, SSDT, PSDT or OSDT is expected"
 words why.Unexpected = codes "not expected here"
 words why.Unfinished = codes "a parenthesis, a brace or a string has no end"
 words why.TooDeep = codes "nested too deep"
 words why.Arguments = codes "other arguments are expected"
 words why.Number = codes "a number is expected: 0x and 2, 4, 8 or 16 digits"
+words why.OneByte = codes "a number of one byte is expected: 0x and 2 digits"
+words why.TwoBytes = codes "a number of two bytes is expected: 0x and 4 digits"
+words why.FourBytes = codes "a number of four bytes is expected: 0x and 8 digits"
 words why.Count = codes "a number in decimal digits is expected, and none above its limit"
 words why.Text = codes "a string is expected, with as many characters as fit"
 words why.Word = codes "neither a keyword nor a name"

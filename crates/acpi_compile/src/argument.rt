@@ -31,27 +31,27 @@ pub fn keyword_at(keyword: Keyword, node: &Node<'_>) -> Result<u8, AslError> {
     }
 }
 
-// A number in hexadecimal digits, which its bytes have.
-fn given<T: Copy>(node: &Node<'_>, number: Option<T>) -> Result<T, AslError> {
+// The number of a node, or the fault of one with other digits.
+fn given<T: Copy>(node: &Node<'_>, number: Option<T>, why: Why) -> Result<T, AslError> {
     match number {
         Some(number) => Ok(number),
-        None => Err(fault(node.at, Why::Number)),
+        None => Err(fault(node.at, why)),
     }
 }
 
 /// A number of one byte.
 pub fn byte_at(node: &Node<'_>) -> Result<u8, AslError> {
-    given(node, byte_of(node))
+    given(node, byte_of(node), Why::OneByte)
 }
 
 /// A number of two bytes.
 pub fn word_at(node: &Node<'_>) -> Result<u16, AslError> {
-    given(node, word_of(node))
+    given(node, word_of(node), Why::TwoBytes)
 }
 
 /// A number of four bytes.
 pub fn dword_at(node: &Node<'_>) -> Result<u32, AslError> {
-    given(node, dword_of(node))
+    given(node, dword_of(node), Why::FourBytes)
 }
 
 /// A decimal number below a limit.
@@ -70,9 +70,14 @@ pub fn string_at(alloc: Global, node: &Node<'_>) -> Result<Vec<u8>, AslError> {
     }
 }
 
-/// The same as characters of ASCII.
+/// The same as characters of ASCII but the zero, which ends a string (ACPI 6.5, 20.2.3).
 pub fn text_at(alloc: Global, node: &Node<'_>) -> Result<String, AslError> {
     let bytes = string_at(alloc, node)?;
+    'bytes: for byte in &bytes {
+        if !(0x01..=0x7f).contains(byte) {
+            return Err(fault(node.at, Why::Text));
+        }
+    }
     match str::from_utf8(&bytes) {
         Ok(text) => Ok(String::from_str(alloc, text)?),
         Err(_) => Err(fault(node.at, Why::Text)),

@@ -5,13 +5,14 @@ ghost use Rattle.acpi_base.specs.Table.{IsTrueTable};
 ghost use Rattle.acpi_asl.specs.Block.{has_terms};
 ghost use Rattle.acpi_compile.specs.Compiled.{IsKeptOf, after_note, IsShownAs, IsCompiled, is_asl};
 
+use crate::argument::dword_at;
 use crate::builder::{MAX_LISTS, nodes_of};
 use crate::fault::{AslError, Why, fault, unwritten};
 use crate::node::{Node, list_of, word_node};
 use crate::note::after;
 use crate::number::{decimal, string};
 use crate::squeeze::{is_word, squeezed, word_at};
-use crate::stated::stated;
+use crate::stated::{last, stated};
 use crate::term::{Context, statements};
 use crate::word::dword_of;
 use acpi_asl::block::{BlockText, has_terms, text_in_part, text_of_block};
@@ -68,6 +69,15 @@ fn creator(alloc: Global, node: &Node<'_>) -> Result<Option<[u8; 8]>, AslError> 
     Ok(Some([a, b, c, d, e, f, g, h]))
 }
 
+// The signature of a definition block.
+fn signature_of(alloc: Global, node: &Node<'_>) -> Result<[u8; 4], AslError> {
+    let signature = padded(alloc, node)?;
+    match &signature {
+        b"DSDT" | b"SSDT" | b"PSDT" | b"OSDT" => Ok(signature),
+        _ => Err(fault(node.at, Why::Signature)),
+    }
+}
+
 // The table of a DefinitionBlock's arguments, without its terms.
 fn header(alloc: Global, node: &Node<'_>) -> Result<Sdt, AslError> {
     let [_, signature, revision, oem, table, oem_revision] = list_of(&node.arguments) else {
@@ -79,10 +89,8 @@ fn header(alloc: Global, node: &Node<'_>) -> Result<Sdt, AslError> {
     let Ok(number) = u8::try_from(number) else {
         return Err(fault(revision.at, Why::Count));
     };
-    let Some(oem_number) = dword_of(oem_revision) else {
-        return Err(fault(oem_revision.at, Why::Number));
-    };
-    let signature = padded(alloc, signature)?;
+    let oem_number = dword_at(oem_revision)?;
+    let signature = signature_of(alloc, signature)?;
     let oem = padded(alloc, oem)?;
     let table = padded(alloc, table)?;
     match Sdt::new(alloc, signature, 36, number, oem, table, oem_number) {
@@ -134,7 +142,7 @@ fn after_note(kept: &[u8]) -> &[u8]
 // The ASL of a block, in which names take these numbers of arguments, without what a compiler skips.
 fn shown(alloc: Global, kept: &[u8], called: &Arities, block: &[u8]) -> Result<Vec<u8>, AslError>
     requires { 36 ≤ length block.now }
-    ensures { IfOk result (λ kept. IsKeptOf called.now block.now kept.items) }
+    ensures { IfOk result (λ text. IsKeptOf called.now block.now text.items) }
 {
     match text_of_block(alloc, BlockText::Asl, called, &[], block) {
         Ok(text) => Ok(squeezed(alloc, text.as_bytes())?),
@@ -143,7 +151,8 @@ fn shown(alloc: Global, kept: &[u8], called: &Arities, block: &[u8]) -> Result<V
     }
 }
 
-// The fault of a block of which not all can be read, at the first word of the text that the ASL of the rest doesn't have.
+// The fault of a block of which not all can be read: its first difference from the text. There the ASL of what can be read may have
+// the note on bytes that can't.
 fn unreadable(
     alloc: Global,
     kept: &[u8],
@@ -153,8 +162,13 @@ fn unreadable(
     requires { 36 ≤ length block.now }
 {
     let text = text_in_part(alloc, BlockText::Asl, called, &[], block)?;
-    let shown = squeezed(alloc, text.as_bytes())?;
-    Ok(fault(place_of(beside(&shown, kept), kept), Why::Unreadable))
+    let squeezed = squeezed(alloc, text.as_bytes())?;
+    let shown = beside(&squeezed, kept);
+    let at = place_of(shown, kept);
+    if shown.get(at..).unwrap_or(&[]).starts_with(b"/*= not read") {
+        return Ok(fault(past_space(kept, at), Why::Unreadable));
+    }
+    unlike(alloc, shown, kept)
 }
 
 // The ASL of a block, with the note on the program that made it only if the text has one.
@@ -188,11 +202,14 @@ fn is_word_at(kept: &[u8], at: usize) -> bool {
     }
 }
 
-// The place of the first word that isn't the same.
+// The place of the first word or note that isn't the same. All notes begin alike.
 fn place_of(shown: &[u8], kept: &[u8]) -> usize {
-    let at = same(shown, kept);
+    let mut at = same(shown, kept);
     if is_word_at(shown, at) || is_word_at(kept, at) {
-        return word_start(kept, at);
+        at = word_start(kept, at);
+    }
+    if kept.get(..at).unwrap_or(&[]).ends_with(b"/*= ") {
+        at = at.saturating_sub(4);
     }
     at
 }
@@ -205,48 +222,85 @@ fn past_space(kept: &[u8], at: usize) -> usize {
     }
 }
 
-// The last segment of a path.
-fn last_segment(path: &[u8]) -> &[u8] {
-    let mut start = 0;
-    'path: for (i, c) in path.iter().enumerate() {
-        if *c == b'.' || *c == b'^' || *c == b'\\' {
-            start = i.saturating_add(1);
-        }
-    }
-    path.get(start..).unwrap_or(&[])
+// Whether a word that begins at a place isn't the use of an object: it begins a string, or is the name that its statement makes or
+// declares.
+fn is_made(kept: &[u8], at: usize) -> bool {
+    let before = kept.get(..at).unwrap_or(&[]);
+    before.ends_with(b"\"")
+        || before.ends_with(b"DataTableRegion(")
+        || before.ends_with(b"Device(")
+        || before.ends_with(b"Event(")
+        || before.ends_with(b"External(")
+        || before.ends_with(b"Method(")
+        || before.ends_with(b"Mutex(")
+        || before.ends_with(b"Name(")
+        || before.ends_with(b"OperationRegion(")
+        || before.ends_with(b"PowerResource(")
+        || before.ends_with(b"Processor(")
+        || before.ends_with(b"ThermalZone(")
 }
 
-// Whether a word begins at a place.
-fn begins_word(kept: &[u8], at: usize) -> bool {
-    match at.checked_sub(1) {
-        Some(before) => is_word_at(kept, at) && !is_word_at(kept, before),
-        None => is_word_at(kept, at),
-    }
+// Whether the use of an object begins at a place.
+fn begins_use(kept: &[u8], at: usize) -> bool {
+    let is_inside = match at.checked_sub(1) {
+        Some(before) => is_word_at(kept, before),
+        None => false,
+    };
+    is_word_at(kept, at) && !is_inside && !is_made(kept, at)
 }
 
-// The first word from a place on whose last segment is this one, or else the place.
+// The first use from a place on of an object with this last segment, or else the place.
 fn use_of(kept: &[u8], from: usize, segment: &[u8]) -> usize {
-    let mut found = from;
-    let mut is_found = false;
     'characters: for at in from..kept.len() {
-        if !is_found && begins_word(kept, at) && last_segment(word_at(at, kept)) == segment {
-            found = at;
-            is_found = true;
+        if begins_use(kept, at) && last(word_at(at, kept)) == segment {
+            return at;
         }
     }
-    found
+    from
 }
 
-// The fault of a text at its first word that the ASL of the block doesn't have.
+// The statement for a name of which the block has no object, up to this name.
+const ABSENT: &[u8] = b"/*= Absent */External(";
+
+// The name in the last of these statements that begins at a place or before it, if the place is within this statement.
+fn absent_at(shown: &[u8], at: usize) -> &[u8] {
+    let mut name: &[u8] = &[];
+    'characters: for start in 0..shown.len() {
+        if start > at {
+            break;
+        }
+        let rest = shown.get(start..).unwrap_or(&[]);
+        if let Some(rest) = after(rest, ABSENT) {
+            name = word_at(0, rest);
+        } else if rest.starts_with(b")") {
+            name = &[];
+        }
+    }
+    name
+}
+
+// Whether a text has this statement for a name.
+fn has_absent(kept: &[u8], name: &[u8]) -> bool {
+    'characters: for start in 0..kept.len() {
+        if let Some(rest) = after(kept.get(start..).unwrap_or(&[]), ABSENT) {
+            if word_at(0, rest) == name {
+                return true;
+            }
+        }
+    }
+    false
+}
+
+// The fault of a text at its first word that the ASL of the block doesn't have. A name that the text doesn't declare is reported
+// where the text uses it.
 fn unlike(alloc: Global, shown: &[u8], kept: &[u8]) -> Result<AslError, AslError> {
     let at = place_of(shown, kept);
-    let rest = shown.get(at..).unwrap_or(&[]);
-    if let Some(rest) = after(rest, b"/*= Absent */External(") {
-        let name = Vec::from_slice(alloc, word_at(0, rest))?;
-        let at = use_of(kept, at, last_segment(&name));
-        return Ok(fault(at, Why::Undeclared(name)));
+    let name = absent_at(shown, at);
+    if !name.is_empty() && !has_absent(kept, name) {
+        let at = use_of(kept, at, last(name));
+        return Ok(fault(at, Why::Undeclared(Vec::from_slice(alloc, name)?)));
     }
-    let word = Vec::from_slice(alloc, word_at(at, shown))?;
+    let word = Vec::from_slice(alloc, word_at(past_space(shown, at), shown))?;
     Ok(fault(past_space(kept, at), Why::Otherwise(word)))
 }
 

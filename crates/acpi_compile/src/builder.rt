@@ -232,9 +232,11 @@ pub fn nodes_of<'a>(alloc: Global, text: &'a [u8]) -> Result<Vec<Node<'a>>, AslE
         part = Part::Mark;
     }
     match part {
-        Part::Mark if builder.outer.is_empty() && builder.note.is_empty() => Ok(
-            builder.inner.nodes,
-        ),
+        Part::Text(from) | Part::Escape(from) => Err(fault(from, Why::Unfinished)),
+        Part::Mark if builder.outer.is_empty() => {
+            builder.no_note(text.len())?;
+            Ok(builder.inner.nodes)
+        }
         _ => Err(fault(text.len(), Why::Unfinished)),
     }
 }

@@ -33,11 +33,10 @@ fn width_of(node: &Node<'_>, n: usize) -> u8 {
 }
 
 // A number of bits that a length can say (ACPI 6.5, 20.2.4).
-fn encoded(node: &Node<'_>, bits: u32) -> Result<u32, AslError> {
-    if bits < 0x1000_0000 {
-        Ok(bits)
-    } else {
-        Err(fault(node.at, Why::TooLong))
+fn encoded(node: &Node<'_>, bits: u64) -> Result<u32, AslError> {
+    match u32::try_from(bits) {
+        Ok(bits) if bits < 0x1000_0000 => Ok(bits),
+        _ => Err(fault(node.at, Why::TooLong)),
     }
 }
 
@@ -58,12 +57,12 @@ impl Entries {
     // Adds bits with a name, or without one.
     fn bits(&mut self, name: &Node<'_>, node: &Node<'_>) -> Result<(), AslError> {
         let Some(bits) = decimal(node.word) else {
-            return Err(wrong(node));
+            return Err(fault(node.at, Why::Count));
         };
         if !node.is_alone() {
             return Err(wrong(node));
         }
-        let bits = encoded(node, bits)?;
+        let bits = encoded(node, u64::from(bits))?;
         if name.is_absent() {
             return self.reserved(name, bits);
         }
@@ -87,10 +86,7 @@ impl Entries {
             return Err(wrong(argument));
         };
         let bits = byte.value.saturating_mul(8).saturating_sub(self.bit);
-        match u32::try_from(bits) {
-            Ok(bits) => self.reserved(node, encoded(node, bits)?),
-            Err(_) => Err(wrong(node)),
-        }
+        self.reserved(node, encoded(argument, bits)?)
     }
 
     // Adds how the entries after it are accessed.
@@ -141,7 +137,8 @@ impl Entries {
         if matches!(connection.word, b"Buffer") {
             return self.raw(alloc, node, connection);
         }
-        if is_keyword(connection.word) {
+        // The macros of descriptors, such as `IRQ`, may be names elsewhere.
+        if !connection.is_alone() || is_keyword(connection.word) {
             let bytes = item(alloc, connection)?;
             let size = bytes.len() as u64;
             return self.buffer(node, size, least_bytes(size), bytes);

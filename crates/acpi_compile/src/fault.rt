@@ -14,8 +14,10 @@ use std::alloc::{AllocError, AllocFailed, Global};
 /// What is wrong.
 #[derive(Debug, Drop)]
 pub enum Why {
-    /// There is no DefinitionBlock, or something follows it, or its signature isn't that of a definition block.
+    /// There is no DefinitionBlock, or something follows it.
     Block,
+    /// The signature isn't that of a definition block.
+    Signature,
     /// A parenthesis, a brace, a comma or a word isn't expected.
     Unexpected,
     /// A parenthesis, a brace or a string has no end.
@@ -26,6 +28,12 @@ pub enum Why {
     Arguments,
     /// A number has another form than `0x` and two, four, eight or sixteen hexadecimal digits.
     Number,
+    /// A number of one byte has another form than `0x` and two hexadecimal digits.
+    OneByte,
+    /// One of two bytes has another form than `0x` and four digits.
+    TwoBytes,
+    /// One of four bytes has another form than `0x` and eight digits.
+    FourBytes,
     /// A count has another form than decimal digits, or is too large.
     Count,
     /// A string has another form, or more characters than its place.
@@ -102,11 +110,15 @@ impl Why {
     {
         match self {
             Why::Block => text.push_str("a DefinitionBlock is expected, and nothing after it"),
+            Why::Signature => text.push_str("the signature DSDT, SSDT, PSDT or OSDT is expected"),
             Why::Unexpected => text.push_str("not expected here"),
             Why::Unfinished => text.push_str("a parenthesis, a brace or a string has no end"),
             Why::TooDeep => text.push_str("nested too deep"),
             Why::Arguments => text.push_str("other arguments are expected"),
             Why::Number => text.push_str("a number is expected: 0x and 2, 4, 8 or 16 digits"),
+            Why::OneByte => text.push_str("a number of one byte is expected: 0x and 2 digits"),
+            Why::TwoBytes => text.push_str("a number of two bytes is expected: 0x and 4 digits"),
+            Why::FourBytes => text.push_str("a number of four bytes is expected: 0x and 8 digits"),
             Why::Count => text.push_str(
                 "a number in decimal digits is expected, and none above its limit",
             ),

@@ -8,8 +8,8 @@ use crate::word::is_keyword;
 use acpi_term::name_string::{Arities, NameString};
 use std::alloc::{AllocError, Global};
 
-// The last segment of a name, as it is written.
-fn last(word: &[u8]) -> &[u8] {
+/// The last segment of a name, as it is written.
+pub fn last(word: &[u8]) -> &[u8] {
     let mut rest = word;
     'segments: for part in word.split(|c| *c == b'.' || *c == b'^' || *c == b'\\') {
         rest = part;
@@ -17,32 +17,49 @@ fn last(word: &[u8]) -> &[u8] {
     rest
 }
 
-// Adds the last segments of the methods that nodes declare, also within them to a depth.
+// What the statements of a text declare.
+#[derive(Drop)]
+struct Declared<'a> {
+    // The last segments of methods, and of external objects whose type is known.
+    segments: Vec<&'a [u8]>,
+    // The names of which the block has no object.
+    absent: Vec<&'a [u8]>,
+}
+
+// Adds what a statement declares. An external object without a type may be a method of any number of arguments.
+fn push_own<'a>(node: &Node<'a>, declared: &mut Declared<'a>) -> Result<(), AllocError> {
+    match list_of(&node.arguments) {
+        [name, ..] if node.is_for_compilers() => declared.absent.push(name.word)?,
+        [_, kind, ..] if matches!((node.word, kind.word), (b"External", b"UnknownObj")) => {}
+        [name, ..] if matches!(node.word, b"Method" | b"External") => {
+            declared.segments.push(last(name.word))?
+        }
+        _ => {}
+    }
+    Ok(())
+}
+
+// Adds what statements declare, also within them to a depth.
 #[cycle(declared)]
 fn push_declared<'a>(
     depth: usize,
     nodes: &[Node<'a>],
-    declared: &mut Vec<&'a [u8]>,
+    declared: &mut Declared<'a>,
 ) -> Result<(), AllocError> {
     let Some(depth) = depth.checked_sub(1) else {
         return Ok(());
     };
     'nodes: for node in nodes {
-        if let [name, ..] = list_of(&node.arguments) {
-            if matches!(node.word, b"Method" | b"External") && !node.is_for_compilers() {
-                declared.push(last(name.word))?;
-            }
-        }
+        push_own(node, declared)?;
         push_declared(depth, list_of(&node.body), declared)?;
     }
     Ok(())
 }
 
-// Whether the last segment of a name is among these.
-fn is_declared(declared: &[&[u8]], word: &[u8]) -> bool {
-    let segment = last(word);
-    'names: for name in declared {
-        if *name == segment {
+// Whether a word is among these.
+fn is_among(word: &[u8], words: &[&[u8]]) -> bool {
+    'words: for other in words {
+        if *other == word {
             return true;
         }
     }
@@ -50,10 +67,10 @@ fn is_declared(declared: &[&[u8]], word: &[u8]) -> bool {
 }
 
 // Whether a node is a call with arguments of a method that isn't declared.
-fn is_stated(declared: &[&[u8]], node: &Node<'_>) -> bool {
+fn is_stated(declared: &Declared<'_>, node: &Node<'_>) -> bool {
     !list_of(&node.arguments).is_empty()
         && !is_keyword(node.word)
-        && !is_declared(declared, node.word)
+        && (is_among(node.word, &declared.absent) || !is_among(last(node.word), &declared.segments))
 }
 
 // Adds the numbers of arguments of calls, also within them to a depth.
@@ -61,7 +78,7 @@ fn is_stated(declared: &[&[u8]], node: &Node<'_>) -> bool {
 fn add_called(
     alloc: Global,
     depth: usize,
-    declared: &[&[u8]],
+    declared: &Declared<'_>,
     nodes: &[Node<'_>],
     called: &mut Arities,
 ) -> Result<(), AslError> {
@@ -70,7 +87,7 @@ fn add_called(
     };
     'nodes: for node in nodes {
         // The macros of descriptors, such as `IRQ`, may be names elsewhere.
-        if matches!(node.word, b"ResourceTemplate") {
+        if matches!(node.word, b"ResourceTemplate" | b"Connection") {
             continue;
         }
         if is_stated(declared, node) {
@@ -86,7 +103,10 @@ fn add_called(
 
 /// The numbers of arguments of the methods that a text calls and doesn't declare.
 pub fn stated(alloc: Global, nodes: &[Node<'_>]) -> Result<Arities, AslError> {
-    let mut declared = Vec::new(alloc);
+    let mut declared = Declared {
+        segments: Vec::new(alloc),
+        absent: Vec::new(alloc),
+    };
     push_declared(MAX_LISTS, nodes, &mut declared)?;
     let mut called = none(alloc)?;
     add_called(alloc, MAX_LISTS, &declared, nodes, &mut called)?;

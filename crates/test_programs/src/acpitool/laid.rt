@@ -235,7 +235,7 @@ of the line\n";
     let asl = b"DefinitionBlock (\"\", \"DSDT\", 2, \"FOOBAR\", \"CAFEDEAD\", 1)\n{\n}\n";
     write(&rt, path, asl)?;
     let line =
-        "no_texts/a.txt: line 1, at 1: a number is expected: 0x and 2, 4, 8 or 16 digits\n";
+        "no_texts/a.txt: line 1, at 1: a number of four bytes is expected: 0x and 8 digits\n";
     ends(&rt, &words, 1, &[], &[line])?;
     write(&rt, path, WRONG.as_bytes())?;
     let lines = [
