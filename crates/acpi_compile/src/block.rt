@@ -151,8 +151,8 @@ fn shown(alloc: Global, kept: &[u8], called: &Arities, block: &[u8]) -> Result<V
     }
 }
 
-// The fault of a block of which not all can be read: its first difference from the text. There the ASL of what can be read may have
-// the note on bytes that can't.
+// The fault of a block of which not all can be read: its first difference from the text. There the ASL of what can be read may
+// have the note on bytes that can't.
 fn unreadable(
     alloc: Global,
     kept: &[u8],
@@ -222,8 +222,8 @@ fn past_space(kept: &[u8], at: usize) -> usize {
     }
 }
 
-// Whether a word that begins at a place isn't the use of an object: it begins a string, or is the name that its statement makes or
-// declares.
+// Whether a word that begins at a place isn't the use of an object: it begins a string, or is the name that its statement makes
+// or declares.
 fn is_made(kept: &[u8], at: usize) -> bool {
     let before = kept.get(..at).unwrap_or(&[]);
     before.ends_with(b"\"")

@@ -1,5 +1,6 @@
 -- The fields in which the tables in two files differ.
-use Rattle.std.specs.Prelude.{◌≡◌, ◌≢◌, ◌⊎◌, ℕ, List, [], ◌∷◌, ◌++◌, map, Option, codes}
+use Rattle.std.specs.Prelude.{◌≡◌, ◌≢◌, ◌⊎◌, ℕ, ◌-◌, if◌then◌else◌, List, [], ◌∷◌, ◌++◌, length, map, take, drop, Option, codes}
+use Rattle.std.specs.Str.{bytes_eq}
 use Rattle.std.specs.Io.KnownBytes.{Keeps, Appends}
 use Rattle.acpi_forms.specs.Kind.{kind_of, title_of}
 use Rattle.acpi_read.specs.Report.{printable}
@@ -18,9 +19,27 @@ abbrev pub signatures_line : List ℕ → List ℕ → List ℕ
 signatures_line a b =
     codes "the signatures differ: " ++ map printable (title_of a) ++ codes ", " ++ map printable (title_of b) ++ 10 ∷ []
 
--- the lines of the fields of tables that differ, or one line if no field does
+-- the bytes that no field has: those before the first field, between fields, and after the last. `total` is how many bytes the
+-- table has, of which `rest` are left.
+abbrev pub nameless_in : ℕ → List Field → List ℕ → List ℕ
+nameless_in total [] rest = rest
+nameless_in total (field ∷ fields) rest =
+    let before = field.offset - (total - length rest) in
+    take before rest ++ nameless_in total fields (drop (length field.bytes) (drop before rest))
+
+abbrev pub nameless : List Field → List ℕ → List ℕ
+nameless fields table = nameless_in (length table) fields table
+
+abbrev pub nameless_line : List ℕ
+nameless_line = codes "bytes without a name differ\n"
+
+-- the line of tables in which these bytes have no name
+abbrev pub nameless_lines : List ℕ → List ℕ → List ℕ
+nameless_lines a b = if bytes_eq a b then [] else nameless_line
+
+-- the lines of tables that differ: one at least
 abbrev pub or_nameless : List ℕ → List ℕ
-or_nameless [] = codes "bytes without a name differ\n"
+or_nameless [] = nameless_line
 or_nameless (c ∷ lines) = c ∷ lines
 
 -- the lines of two tables whose fields are these
@@ -31,7 +50,7 @@ pub record AreDifferences (a b text : List ℕ) : Type 0 where
   pub has_first : AreFields a first
   pub has_second : AreFields b second
   pub differ : AreLines first second lines
-  pub is : text ≡ or_nameless lines
+  pub is : text ≡ or_nameless (lines ++ nameless_lines (nameless first a) (nameless second b))
 
 -- What is printed of two tables: nothing if they are the same, and only then. Otherwise it is a line on their signatures if these
 -- differ, or else the lines of their fields.

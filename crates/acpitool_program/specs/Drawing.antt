@@ -13,7 +13,9 @@ use Rattle.acpitool_program.specs.Fault.{line_of, Says}
 use Rattle.acpitool_program.specs.Headed.{IsNoTable}
 use Rattle.acpitool_program.specs.Image.{IsFoundImage}
 use Rattle.acpitool_program.specs.Listing.{NotListed, NotRead}
+use Rattle.acpitool_program.specs.Outcome.{fault_line, fault_status}
 use Rattle.acpitool_program.specs.Placed.{IsPlaced}
+use Rattle.acpitool_program.specs.Structures.{HasOrBroken}
 use Rattle.acpitool_program.specs.declared.fault.Fault.{Fault}
 
 -- the graph of a table, or its tree
@@ -34,13 +36,19 @@ pub record HasNoWalk (bytes : List ℕ) (fault : Fault) : Type 0 where
 abbrev pub IsUndrawn : List ℕ → Fault → Type 0
 IsUndrawn bytes fault = IsNoTable bytes fault ⊎ HasNoWalk bytes fault
 
--- the structures of a table were drawn
-pub record IsDrawn (dot : Bool) (bytes : List ℕ) (out out' err err' : Option (List ℕ)) (status : ℕ) : Type 0 where
+-- a line says what is wrong with the structures of a table, if they can't all be found
+pub record TellsBroken (name table : List ℕ) (err err' : Option (List ℕ)) (status : ℕ) : Type 0 where
+  pub fault : Option Fault
+  pub found : HasOrBroken table fault
+  pub told : Appends err err' (fault_line name fault)
+  pub is : status ≡ fault_status fault
+
+-- the structures of a table were drawn that can be found
+pub record IsDrawn (dot : Bool) (name bytes : List ℕ) (out out' err err' : Option (List ℕ)) (status : ℕ) : Type 0 where
   pub walk : Walk
   pub has : HasWalk bytes walk
   pub wrote : Appends out out' (drawn dot walk bytes)
-  pub silent : Keeps err err'
-  pub is : status ≡ 0
+  pub told : TellsBroken name bytes err err' status
 
 -- nothing was drawn, and a line says why
 pub record IsNotDrawn (name bytes : List ℕ) (out out' err err' : Option (List ℕ)) (status : ℕ) : Type 0 where
@@ -53,7 +61,7 @@ pub record IsNotDrawn (name bytes : List ℕ) (out out' err err' : Option (List 
 abbrev pub DrawsBytes : Bool → List ℕ → List ℕ → Option (List ℕ) → Option (List ℕ) → Option (List ℕ) → Option (List ℕ) → ℕ
     → Type 0
 DrawsBytes dot name bytes out out' err err' status =
-    IsDrawn dot bytes out out' err err' status ⊎ IsNotDrawn name bytes out out' err err' status
+    IsDrawn dot name bytes out out' err err' status ⊎ IsNotDrawn name bytes out out' err err' status
 
 -- what comes of the table in a file: the system says which bytes the file has
 abbrev pub DrawsFile : Bool → List ℕ → Option (List ℕ) → Option (List ℕ) → Option (List ℕ) → Option (List ℕ) → ℕ → Type 0

@@ -5,7 +5,7 @@ use Rattle.std.specs.Prelude.{string_bytes, if◌then◌else◌}
 use Rattle.std.specs.Str.{bytes_eq}
 use Rattle.std.specs.Io.KnownBytes.{Keeps, Appends}
 use Rattle.std.specs.declared.io.ErrorKind.{ErrorKind}
-use Rattle.std.specs.declared.io.ErrorKind.TheVariants.{BrokenPipe}
+use Rattle.std.specs.declared.io.ErrorKind.TheVariants.{InvalidData}
 use Rattle.acpi_forms.specs.Known.{is_known, meant}
 use Rattle.acpi_forms.specs.Makes.{IsTemplateOf}
 use Rattle.acpi_input.specs.Stated.{stated}
@@ -73,7 +73,7 @@ wrong_line NoTable = codes "acpitool: no file for the table\n"
 wrong_line NoSignature = codes "acpitool: no signature\n"
 wrong_line NoBlock = codes "acpitool: no file with a definition block\n"
 wrong_line NoPacked = codes "acpitool: no file to unpack\n"
-wrong_line NoFolder = codes "acpitool: no folder for the tables\n"
+wrong_line NoFolder = codes "acpitool: no folder for the files\n"
 wrong_line NoTables = codes "acpitool: no folder with tables\n"
 wrong_line NoArchive = codes "acpitool: no file for the archive\n"
 wrong_line NoImageFile = codes "acpitool: no file for the image\n"
@@ -85,7 +85,8 @@ wrong_line NoSecond = codes "acpitool: no second file to compare\n"
 wrong_line NoDrawing = codes "acpitool: no file to draw\n"
 wrong_line (Signature word) = codes "acpitool: not a signature of four characters: " ++ word.now ++ codes "\n"
 wrong_line (Base word) = codes "acpitool: not an address in hexadecimal: " ++ word.now ++ codes "\n"
-wrong_line (Number word) = codes "acpitool: not NAME=N with N from 0 to 7: " ++ word.now ++ codes "\n"
+wrong_line (Number word) =
+    codes "acpitool: not NAME=N with names of four characters and N from 0 to 7: " ++ word.now ++ codes "\n"
 wrong_line Twice = codes "acpitool: two numbers of arguments for one name\n"
 
 abbrev pub wrong_text : Wrong → List ℕ
@@ -256,9 +257,9 @@ Ended words out out' err err' status = Done words out out' err err' status ⊎ R
 
 -- ---- the process
 
--- the status of an error of the output or of the words: 0 if the reader of the output went away, and 1 otherwise
+-- the status of an error of the words or of the output: 2 if a word isn't UTF-8, and 1 otherwise
 abbrev pub IsLost : ErrorKind → ℕ → Type 0
-IsLost kind status = ((kind ≡ BrokenPipe) × (status ≡ 0)) ⊎ ((kind ≢ BrokenPipe) × (status ≡ 1))
+IsLost kind status = ((kind ≡ InvalidData) × (status ≡ 2)) ⊎ ((kind ≢ InvalidData) × (status ≡ 1))
 
 -- the run ended as one on some words does, or it had an error
 abbrev pub Started : Option (List ℕ) → Option (List ℕ) → Option (List ℕ) → Option (List ℕ) → ℕ → Type 0

@@ -28,12 +28,13 @@ use std::io;
 use std::io::Write;
 use std::rt::Files;
 
-// The address of an RSDP. A guest without EFI looks for it at multiples of 16 (ACPI 6.5, 5.2.5.1).
+// What is wrong with the address of an RSDP: a guest without EFI looks for it at multiples of 16 (ACPI 6.5, 5.2.5.1).
 const UNALIGNED: Fault = Fault {
     place: None,
     words: "the address of an RSDP has to be a multiple of 0x10",
 };
 
+// What is wrong with an RSDP that shares addresses with the tables.
 const OVERLAPS: Fault = Fault {
     place: None,
     words: "the RSDP overlaps the tables",
@@ -246,7 +247,8 @@ fn tell_one_file<E: Write>(err: &mut E) -> io::Result<u8>
 /// line on `out` has the address.
 ///
 /// The lines on `err` and the status are as those of `lay_folder`. In place of an image that isn't found again, the RSDP overlaps
-/// the tables, its address isn't a multiple of 16, or the tables aren't found from it on. The file isn't `-`.
+/// the tables, its address isn't a multiple of 16, or the tables aren't found from it on. `-` is refused with a line and 1. The
+/// tables are written first: if the RSDP can't be written then, the file has the new tables already, and the status is 1.
 pub fn lay_apart<R: Files + AllocGlobal + Clone + Drop, O: Write, E: Write>(
     rt: &R,
     alloc: Global,

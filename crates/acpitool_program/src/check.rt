@@ -10,9 +10,9 @@ use acpi_read::bytes::{dword_at, sums_to_zero};
 use acpi_read::table::Table;
 use acpi_term::read_error::ReadError;
 
-/// Returns Ok if bytes are a Root System Description Pointer (ACPI 6.5, 5.2.5.3): 20 bytes of revision 0, or as many as the
-/// length at offset 20 says, of which the first 20 and all sum to zero. The errors: ShortHeader for fewer bytes than these,
-/// TableLength at 20 for another length, Sum at 8 and 32 for the sums.
+/// Returns Ok if bytes are a Root System Description Pointer (ACPI 6.5, 5.2.5.3). One of revision 0 or 1 may have 20 bytes. Any
+/// other has at least 36, and as many as the length at offset 20 says. The first 20 sum to zero, and so do all. The errors:
+/// ShortHeader for fewer bytes, Sum at 8 for the first 20, TableLength at 20 for another length, Sum at 32 for all.
 pub fn check_pointer(bytes: &[u8]) -> Result<(), ReadError>
     ensures { IsOk result ↔ IsPointer bytes.now }
 {

@@ -176,7 +176,7 @@ fn is_force(word: &str) -> bool
     word == "--force"
 }
 
-// Returns whether a command takes an option.
+// Returns whether a command takes an option anywhere among its words.
 fn takes(verb: Verb, word: &str) -> bool
     ensures { result ≡ takes verb word.now }
 {

@@ -1,8 +1,9 @@
 //! The fields in which the tables in two files differ.
 
-ghost use Rattle.std.specs.Prelude.{◌≡◌, ◌≤◌, ℕ, List, [], ◌∷◌, ◌++◌, codes, IfOk, OnOk, string_bytes};
+ghost use Rattle.std.specs.Prelude.{◌≡◌, ◌≤◌, ℕ, List, [], ◌∷◌, ◌++◌, map, take, drop, codes, IfOk, OnOk, string_bytes};
 ghost use Rattle.std.specs.Io.KnownBytes.{Appends};
-ghost use Rattle.acpitool_program.specs.Comparing.{signatures_line, or_nameless, AreDifferences};
+ghost use Rattle.acpi_rules.specs.Field.{seen};
+ghost use Rattle.acpitool_program.specs.Comparing.{signatures_line, nameless, nameless_lines, or_nameless, AreDifferences};
 ghost use Rattle.acpitool_program.specs.Comparing.{IsComparison, comparison_status, ComparesBytes};
 ghost use Rattle.acpitool_program.specs.Comparing.{ComparesWith, Compares};
 ghost use Rattle.acpitool_program.specs.Fault.{line_of};
@@ -16,6 +17,7 @@ use crate::text::check_kind;
 use acpi_forms::kind::title_of;
 use acpi_read::report::push_shown;
 use acpi_rules::difference::differences_of;
+use acpi_rules::field::Field;
 use std::alloc::{AllocError, Global};
 use std::io;
 use std::io::{Input, Write};
@@ -33,14 +35,52 @@ fn signatures_line(alloc: Global, a: &[u8], b: &[u8]) -> Result<String, AllocErr
     Ok(text)
 }
 
-// Returns the lines of the fields of tables that differ, or one line if no field does.
-fn or_nameless(alloc: Global, lines: String) -> Result<String, AllocError>
-    ensures { IfOk result (λ text. string_bytes text ≡ or_nameless (string_bytes lines)) }
+// Returns the first bytes, or all if there are fewer.
+fn front(count: usize, bytes: &[u8]) -> &[u8]
+    ensures { result.now ≡ take count bytes.now }
 {
-    if lines.is_empty() {
-        return String::from_str(alloc, "bytes without a name differ\n");
+    if count < bytes.len() {
+        &bytes[..count]
+    } else {
+        bytes
     }
-    Ok(lines)
+}
+
+// Returns the bytes after the first ones.
+fn after(count: usize, bytes: &[u8]) -> &[u8]
+    ensures { result.now ≡ drop count bytes.now }
+{
+    if count < bytes.len() {
+        &bytes[count..]
+    } else {
+        &[]
+    }
+}
+
+// Returns the bytes of a table that none of its fields has.
+fn nameless(alloc: Global, fields: &[Field<'_>], table: &[u8]) -> Result<Vec<u8>, AllocError>
+    ensures { IfOk result (λ bytes. bytes.items ≡ nameless (map seen fields.now) table.now) }
+{
+    let mut bytes = Vec::new(alloc);
+    let mut rest = table;
+    'fields: for field in fields {
+        let at = table.len().saturating_sub(rest.len());
+        let before = field.offset.saturating_sub(at);
+        bytes.extend_from_slice(front(before, rest))?;
+        rest = after(field.bytes.len(), after(before, rest));
+    }
+    bytes.extend_from_slice(rest)?;
+    Ok(bytes)
+}
+
+// Adds a line if the bytes without a name differ, or if there would be no other.
+fn push_nameless(a: &[u8], b: &[u8], lines: &mut String) -> Result<(), AllocError>
+    ensures { OnOk result (string_bytes lines.new ≡ or_nameless (string_bytes lines.old ++ nameless_lines a.now b.now)) }
+{
+    if a != b || lines.is_empty() {
+        return lines.push_str("bytes without a name differ\n");
+    }
+    Ok(())
 }
 
 // Returns the lines of the fields in which two tables differ.
@@ -49,8 +89,13 @@ fn differences(alloc: Global, a: &[u8], b: &[u8]) -> Result<String, AllocError>
 {
     let first = fields_in(alloc, a)?;
     let second = fields_in(alloc, b)?;
-    let lines = differences_of(alloc, &first, &second)?;
-    or_nameless(alloc, lines)
+    let mut lines = differences_of(alloc, &first, &second)?;
+    push_nameless(
+        &nameless(alloc, &first, a)?,
+        &nameless(alloc, &second, b)?,
+        &mut lines,
+    )?;
+    Ok(lines)
 }
 
 // Returns what is printed of two tables.
@@ -135,8 +180,8 @@ fn compare_with<R: Files + Input, O: Write, E: Write>(
 }
 
 /// Prints a line for each field in which the tables in two files differ, or on standard input where the word is `-`: by the form
-/// of their signature, and by their structures. A line says if only bytes that the form has no name for differ, or if the
-/// signatures do. The status is 0 if the files have the same bytes, and then nothing is printed; 1 if they differ, or if one
+/// of their signature, and by their structures. A line says if bytes that the form has no name for differ, or if the signatures
+/// do. The status is 0 if the files have the same bytes, and then nothing is printed; 1 if they differ, or if one
 /// isn't what its signature says, which a line on `err` says; and 2 if a file can't be read.
 pub fn compare_files<R: Files + Input, O: Write, E: Write>(
     rt: &R,

@@ -1,7 +1,7 @@
 //! The structures of a table, or the tables of an image, drawn as a tree or as a graph.
 
 ghost use Rattle.std.specs.Prelude.{◌≡◌, IfOk, IfErr};
-ghost use Rattle.acpitool_program.specs.Drawing.{drawn, HasWalk, IsUndrawn, DrawsBytes, DrawsFile};
+ghost use Rattle.acpitool_program.specs.Drawing.{drawn, HasWalk, IsUndrawn, TellsBroken, DrawsBytes, DrawsFile};
 ghost use Rattle.acpitool_program.specs.Drawing.{image_drawn, DrawsImageBytes, DrawsImage, Draws};
 
 use crate::complaint::complain;
@@ -10,12 +10,14 @@ use crate::files::read_word;
 use crate::headed::headed;
 use crate::image::find_tables;
 use crate::listing::tell_no_image;
-use crate::outcome::tell_unread;
+use crate::outcome::{tell_fault, tell_unread};
 use crate::placed::{Placed, image_in};
+use crate::structures::table_fault;
 use acpi_base::further_walk::table_walk_of;
 use acpi_base::walk::Walk;
 use acpi_layout::located::Located;
 use acpi_read::pieces::signature_number;
+use acpi_read::table::Table;
 use acpi_tree::dot::dot_of;
 use acpi_tree::image::{image_dot_of, image_tree_of};
 use acpi_tree::tree::tree_of;
@@ -30,16 +32,30 @@ const NO_STRUCTURES: Fault = Fault {
     words: "a table without structures",
 };
 
-// Returns how the structures of a table are found, or what is wrong with the bytes, and where.
-fn walk_in(bytes: &[u8]) -> Result<Walk, Fault>
-    ensures ok { IfOk result (HasWalk bytes.now) }
+// Returns the table that bytes are, and how its structures are found, or what is wrong with the bytes, and where.
+fn walk_in(bytes: &[u8]) -> Result<(Table<'_>, Walk), Fault>
+    ensures table { IfOk result (λ found. found.0 ≡ bytes.now) }
+    ensures walk { IfOk result (λ found. HasWalk bytes.now found.1) }
     ensures err { IfErr result (IsUndrawn bytes.now) }
 {
     let table = headed(bytes)?;
     match table_walk_of(signature_number(&table)) {
-        Some(walk) => Ok(walk),
+        Some(walk) => Ok((table, walk)),
         None => Err(NO_STRUCTURES),
     }
+}
+
+// Prints what is wrong with the structures of a table, if they can't all be found, and returns the status.
+fn tell_broken<E: Write>(
+    alloc: Global,
+    name: &str,
+    table: &Table<'_>,
+    err: &mut E,
+) -> io::Result<u8>
+    ensures { IfOk result (TellsBroken name.now table.now (E.contents err.old) (E.contents err.new)) }
+{
+    let fault = table_fault(alloc, table)?;
+    tell_fault(alloc, name, &fault, err)
 }
 
 // Returns the graph of a table, or its tree.
@@ -53,7 +69,8 @@ fn drawn(alloc: Global, dot: bool, walk: Walk, bytes: &[u8]) -> Result<Vec<u8>, 
     }
 }
 
-// Draws the structures of a table, or prints what is wrong with the bytes, and returns the status.
+// Draws the structures of a table, and prints what is wrong with them, or prints what is wrong with the bytes, and returns the
+// status.
 fn draw_bytes<O: Write, E: Write>(
     alloc: Global,
     dot: bool,
@@ -66,10 +83,10 @@ fn draw_bytes<O: Write, E: Write>(
         (E.contents err.old) (E.contents err.new) status) }
 {
     match walk_in(bytes) {
-        Ok(walk) => {
+        Ok((table, walk)) => {
             let text = drawn(alloc, dot, walk, bytes)?;
             out.write_all(&text)?;
-            Ok(0)
+            tell_broken(alloc, name, &table, err)
         }
         Err(fault) => {
             complain(alloc, name, &fault, err)?;
@@ -149,7 +166,7 @@ fn draw_image<R: Files + Input, O: Write, E: Write>(
 
 /// Draws what a word names, as a tree, or as a graph for graphviz: the structures of the table in a file, or on standard input
 /// if the word is `-`, or the tables of an image if it is FILE@BASE. Returns 0, or 1 if the bytes are no table or no image or a
-/// table without structures, or 2 if the file can't be read; a line says why.
+/// table without structures, or if not all of its structures can be found, or 2 if the file can't be read; a line says why.
 pub fn draw<R: Files + Input, O: Write, E: Write>(
     rt: &R,
     alloc: Global,

@@ -25,10 +25,11 @@ of this whole name comes first.
 A definition block is shown as ASL after the fields of its header, which are comments. If not all of its terms can be
 read, its bytes are shown, and comments say why and have the ASL of the others. The definition blocks of all FILEs may
 call each other's methods, if at most one of them is a DSDT.
-NAME=N states how many arguments calls of NAME have. Calls of other names have as many as the table states for
-the method of this name, or else none. With --no-offsets right after it, show leaves out the offsets at the front of
-lines, so that a text diff of two tables has only what differs. With --bytes it shows the bytes of definition blocks, as
-of all other tables, and their terms are comments. make reads each of these texts.
+NAME=N states how many arguments calls of NAME have: each part of NAME has four characters, as FOO_. Calls of other
+names have as many as the table states for the method of this name, or else none. These words come last. So a file
+whose name has an equals sign, or begins with a dash, is ./FILE. With --no-offsets right after it, show leaves out the
+offsets at the front of lines, so that a text diff of two tables has only what differs. With --bytes it shows the bytes
+of definition blocks, as of all other tables, and their terms are comments. make reads each of these texts.
 
 show --json prints the same tables as one array of JSON for scripts: an object for each, with its signature, its
 length, its fields by offset, name and value, its structures with their fields, and all of its bytes. A number above
@@ -45,11 +46,13 @@ check --json prints an array of JSON with an object for each such rule.
 
 diff prints a line for each field in which two tables differ: its offset and its name, and its bytes in the first and
 in the second table in hexadecimal, the highest first, or none. Fields are compared in their order and not by their
-offsets, so a structure that only one table has doesn't shift those after it. A line says if only bytes without a name
-differ, or if the tables have different signatures. A FILE is one table, as for show; - is standard input.
+offsets, so a structure that only one table has doesn't shift those after it. A line says if bytes without a name
+differ, such as the terms of a definition block, or if the tables have different signatures. A FILE is one table, as
+for show; - is standard input.
 
 disassemble prints a definition block as ASL, the language that compilers take. The first FILE is its table, or -
-for standard input. The block may call the methods of those in further FILEs, as an SSDT calls those of the DSDT.
+for standard input. The block may call the methods of those in further FILEs, as an SSDT calls those of the DSDT. Of
+these only the terms that can be read count, and show says of each block which can't.
 The text has an External statement for each name for which the block has no object.
 Terms that can't be read are a comment with their bytes, and a line says why.
 
@@ -81,8 +84,9 @@ template prints such a text of a table: all fields, mostly with zeros, and one s
 the signatures that show knows by name, such as APIC, the MADT's. That of the RSDP is 'RSD '.
 
 unpack writes each table of an image, or of a dump of tables as text, to a file FOLDER/SIGNATURE.aml; further tables
-of a signature have a number, as SSDT1.aml. BASE is that of image, and FOLDER is made if it isn't there. A line says
-the path and the length of each file. A file that is there isn't replaced. As FILE, - is standard input.
+of a signature have a number, as SSDT1.aml. BASE is that of image, and isn't used for a dump. FOLDER is made if it
+isn't there. A line says the path and the length of each file. A file that is there isn't replaced. As FILE, - is
+standard input.
 
 cpio writes the archive from which Linux takes tables in its initrd: the files of FOLDER in kernel/firmware/acpi, byte
 for byte as cpio -H newc makes it, with root as owner and the time 0. Linux takes no RSDP and no FACS from there: a line
@@ -96,7 +100,7 @@ has an RSDP and an XSDT of its own, so those of FOLDER aren't laid, nor is an RS
 changed: it points to the FACS and the DSDT. Tables are laid in the order of their files' names. A line has the address
 of the RSDP. As FILE, - is standard output, and the line goes to standard error; a regular FILE is replaced as make does
 it, unless it is one of the tables. With --rsdp the RSDP is for ADDRESS in hexadecimal, a multiple of 0x10 such as e0000,
-and not in FILE: FILE.rsdp has its bytes, which FILE would else have at its end.
+and not in FILE: FILE.rsdp has its bytes, which FILE would else have at its end. FILE is written first, and isn't -.
 
 loader writes the files by which QEMU hands the tables of FOLDER to firmware: OUT/etc/acpi/tables, OUT/etc/acpi/rsdp and
 OUT/etc/table-loader. The tables are laid as lay does it, without addresses. The last file has the commands by which
@@ -108,10 +112,11 @@ in, are those whose offsets it has: the parent and the caches of a processor (PP
 RIMT), the node behind which an endpoint is (VIOT). One that is shown above has a line that says so. Below a structure
 are also the numbers in it that another table defines, such as the proximity domains of a HMAT. tree FILE@BASE
 prints the tables of an image, each with its address: below the RSDP the XSDT, below this the tables that it lists, and
-below the FADT the FACS and the DSDT. tree --dot prints them as a graph for graphviz.
+below the FADT the FACS and the DSDT. tree --dot prints them as a graph for graphviz. A line on standard error says if
+not all structures can be found.
 
 The status is 0 if everything is shown or written, 1 if something isn't a table, an image or a text of a table,
-its structures or numbers are wrong, a table breaks a rule, two tables differ, tables have no image, no table has
+its structures, terms or numbers are wrong, a table breaks a rule, two tables differ, tables have no image, no table has
 the signature, or output can't be written, and 2 if a file can't be read or the words are wrong.
 ";
 
@@ -154,7 +159,7 @@ fn print_wrong<E: Write>(wrong: &Wrong<'_>, err: &mut E) -> io::Result<()>
         Wrong::NoSignature => err.write_all(b"acpitool: no signature\n"),
         Wrong::NoBlock => err.write_all(b"acpitool: no file with a definition block\n"),
         Wrong::NoPacked => err.write_all(b"acpitool: no file to unpack\n"),
-        Wrong::NoFolder => err.write_all(b"acpitool: no folder for the tables\n"),
+        Wrong::NoFolder => err.write_all(b"acpitool: no folder for the files\n"),
         Wrong::NoTables => err.write_all(b"acpitool: no folder with tables\n"),
         Wrong::NoArchive => err.write_all(b"acpitool: no file for the archive\n"),
         Wrong::NoImageFile => err.write_all(b"acpitool: no file for the image\n"),
@@ -170,7 +175,12 @@ fn print_wrong<E: Write>(wrong: &Wrong<'_>, err: &mut E) -> io::Result<()>
         Wrong::NoTable => err.write_all(b"acpitool: no file for the table\n"),
         Wrong::Base(word) => writeln!(err, "acpitool: not an address in hexadecimal: {word}"),
         Wrong::Unknown(word) => writeln!(err, "acpitool: unknown word {word}"),
-        Wrong::Number(word) => writeln!(err, "acpitool: not NAME=N with N from 0 to 7: {word}"),
+        Wrong::Number(word) => {
+            writeln!(
+                err,
+                "acpitool: not NAME=N with names of four characters and N from 0 to 7: {word}"
+            )
+        }
         Wrong::Twice => err.write_all(b"acpitool: two numbers of arguments for one name\n"),
     }
 }

@@ -55,7 +55,7 @@ fn is_pointer_at(bytes: &[u8], at: usize, size: usize) -> bool
 pub enum NoImage {
     /// There is no Root System Description Pointer.
     NoPointer,
-    /// The XSDT or the RSDT isn't in the image at this address, which is that of the pointer.
+    /// The pointer has this address of the XSDT or the RSDT, which isn't in the image.
     Away(u64),
     /// What the pointer leads to is wrong.
     Wrong(ImageFault),
@@ -99,6 +99,7 @@ fn bytes_from(base: u64, bytes: &[u8], address: u64) -> &[u8]
     }
 }
 
+// Returns the revision of a table, or 0 if the bytes end before it.
 fn revision_of(base: u64, bytes: &[u8], table: &Located) -> u8
     ensures { result ≡ revision_of base bytes.now table.now }
 {

@@ -1,4 +1,4 @@
-//! The program `acpitool` without its arguments and its exit.
+//! The program `acpitool` without its `main`.
 #![tactic(auto)]
 
 pub mod apart;

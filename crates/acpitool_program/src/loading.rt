@@ -196,12 +196,14 @@ fn write_loader<R: Files, O: Write, E: Write>(
 
 /// Writes the files by which QEMU hands the tables of a folder to firmware to new files of another folder: `etc/acpi/tables`,
 /// `etc/acpi/rsdp` and `etc/table-loader`, in this order. They are those of `loader_of`, for the files in the order of their
-/// names. Each file has to be a table, an RSDP or a FACS by its signature. Folders are made if they aren't there. A line on `out`
-/// has the path and the length of each file that was written.
+/// names. Each file has to be a table, an RSDP or a FACS by its signature, or a text whose name ends in `.txt`, `.asl` or `.dsl`,
+/// which stands for its table. Folders are made if they aren't there. A line on `out` has the path and the length of each file
+/// that was written.
 ///
-/// If the files have no loader, nothing is written, and a line on `err` says why: a file can't be read or isn't what its
-/// signature says, or `loader_of` refuses them. If a folder or a file can't be made, also as it is there, no further file is
-/// written, and a line on `err` names it. The status is 1 then, and 2 if a file or the folder can't be read.
+/// If the files have no loader, nothing is written, and lines on `err` say why: a file can't be read or isn't what its signature
+/// says, a text isn't made into a table, numbers of its table are wrong, or `loader_of` refuses them. If a folder or a file can't
+/// be made, also since a file is there, no further file is written, and a line on `err` names it. The status is 1 then, and 2 if a
+/// file or the folder can't be read.
 pub fn load_folder<R: Files + AllocGlobal + Clone + Drop, O: Write, E: Write>(
     rt: &R,
     alloc: Global,

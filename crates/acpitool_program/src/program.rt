@@ -128,12 +128,14 @@ fn names_text(json: bool) -> BlockText
 
 /// Runs the program on the words after its name, and returns its exit status:
 ///
-/// - 0: everything that was asked for went to `out` or to a file, and nothing to `err` but notes on numbers of a table that was
-///   written by force, or where the RSDP of an image on `out` is;
+/// - 0: everything that was asked for went to `out` or to a file. `err` has only notes: on numbers of a table that was written by
+///   force, on what `repair` changed, on files that `cpio` left out, or on where the RSDP of an image on `out` is;
 /// - 1: something that was read isn't a table, an RSDP, a FACS, an image or a text of a table, the structures of a table can't be
-///   found, a table breaks a rule, two tables differ, tables have no image, a table can't be written or its numbers are wrong,
-///   or no table has a signature; `err` has a line for each, or `out` for a rule or a difference;
-/// - 2: a file can't be read, or words are wrong; `err` has a line for each file, or which word is wrong and the usage.
+///   found, terms of a block can't be read, a table breaks a rule, two tables differ, tables have no image, a table can't be
+///   written or its numbers are wrong, or no table has a signature; `err` has a line for each, or `out` for a rule or a
+///   difference;
+/// - 2: a file or a folder can't be read, a folder has no files, or words are wrong; `err` has a line for each, or which word is
+///   wrong and the usage.
 ///
 /// What can be shown is shown with each status. An error is one of `out` or `err`, or memory ran out.
 pub fn run<R: Files + Input + AllocGlobal + Clone + Drop, O: Write, E: Write>(
@@ -191,12 +193,17 @@ fn run_own<R: Env + Files + Input + AllocGlobal + Clone + Drop, O: Write, E: Wri
     Ok(status)
 }
 
-// Returns the status of a run that had an error, and prints a line unless the reader of the output went away.
+// Returns the status of a run that had an error, and prints a line unless the reader of the output went away. Then the run may
+// not have written all of its files.
 fn end_lost<E: Write>(error: &io::Error, err: &mut E) -> u8
     ensures { IsLost (error_kind error.now) result }
 {
     match error.kind() {
-        ErrorKind::BrokenPipe => 0,
+        ErrorKind::BrokenPipe => 1,
+        ErrorKind::InvalidData => {
+            let _written = err.write_all(b"acpitool: a word isn't UTF-8\n");
+            2
+        }
         _ => {
             let _written = writeln!(err, "acpitool: {error}");
             1
@@ -204,8 +211,8 @@ fn end_lost<E: Write>(error: &io::Error, err: &mut E) -> u8
     }
 }
 
-/// Runs the program on its own words, and returns its exit status. A reader of `out` that goes away ends it with 0 and without a
-/// word; other output that can't be written, with 1 and a line on `err`.
+/// Runs the program on its own words, and returns its exit status. A reader of `out` that goes away ends it with 1 and without a
+/// line; other output that can't be written, with 1 and a line on `err`; a word that isn't UTF-8, with 2 and a line.
 pub fn start<R: Env + Files + Input + AllocGlobal + Clone + Drop, O: Write, E: Write>(
     rt: &R,
     out: &mut O,

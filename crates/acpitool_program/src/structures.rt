@@ -17,8 +17,8 @@ use acpi_term::read_error::ReadError;
 use acpi_text::size::front_size;
 use std::alloc::{AllocError, Global};
 
-// Returns what is wrong with the structures of a table, or none.
-fn table_fault(alloc: Global, table: &Table) -> Result<Option<Fault>, AllocError>
+/// Returns what is wrong with the structures of a table with the standard header, or none. The error is that memory ran out.
+pub fn table_fault(alloc: Global, table: &Table) -> Result<Option<Fault>, AllocError>
     ensures { IfOk result (HasOrBroken table.now) }
 {
     match table.structures(alloc) {

@@ -12,8 +12,8 @@ use acpi_forms::kind::kind_of;
 use acpi_forms::show::show_file;
 use std::alloc::{AllocError, Global};
 
-/// Returns Ok if bytes are what their signature says: a table, a pointer or a control structure; or, without a signature, a table
-/// of coherent devices. An error says what is wrong with the bytes, and where.
+/// Returns Ok if bytes are what their signature says: a table, an RSDP, a FACS or an S3PT; or, without a signature, a CDAT. An
+/// error says what is wrong with the bytes, and where.
 pub fn check_kind(bytes: &[u8]) -> Result<(), Fault>
     ensures ok { OnOk result (IsKind (kind_of bytes.now) bytes.now) }
     ensures err { IfErr result (IsTextFault bytes.now) }

@@ -12,7 +12,7 @@ ghost use Rattle.acpitool_program.specs.Unpacking.{AreUnpacked, AreFiles};
 ghost use Rattle.acpitool_program.specs.Unpacking.{UnpacksDump, UnpacksImage, UnpacksBy, Unpacks};
 
 use crate::complaint::complain;
-use crate::files::{is_folder, read_word, write_new};
+use crate::files::{read_word, write_new};
 use crate::image::{contents, find_tables};
 use crate::listing::tell_no_image;
 use crate::outcome::{tell_unread, worst_of};
@@ -194,12 +194,13 @@ fn unpack_all<R: Files, O: Write, E: Write>(
     Ok(worst)
 }
 
-// Makes a folder, unless it is there.
+// Makes a folder, unless it is there. A file that has its name is an error.
 pub(crate) fn make_folder<R: Files>(rt: &R, folder: &str) -> io::Result<()> {
-    if is_folder(rt, folder) {
-        return Ok(());
+    match fs::metadata(rt, folder) {
+        Ok(metadata) if metadata.is_dir() => Ok(()),
+        Ok(_) => Err(io::Error::new(ErrorKind::NotADirectory, "a file, not a folder")),
+        Err(_) => fs::create_dir(rt, folder),
     }
-    fs::create_dir(rt, folder)
 }
 
 // Writes tables to new files of a folder, which is made if it isn't there.

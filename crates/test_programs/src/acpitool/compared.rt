@@ -65,6 +65,9 @@ const NAMELESS: &[u8] =
 const TURNED: &[u8] =
     b"OEMX\x28\x00\x00\x00\x01\x7fFOOBARCAFEDEAD\x01\x00\x00\x00RVAT\x00\x00\x00\x01\x04\x03\x02\x01";
 
+const LARGER: &[u8] =
+    b"OEMX\x28\x00\x00\x00\x01\x7eFOOBARCAFEDEAD\x01\x00\x00\x00RVAT\x00\x00\x00\x01\x01\x02\x03\x05";
+
 // Bytes without a name, and tables with different signatures, have a line.
 #[test]
 fn others_differ(rt: HostRuntime) -> Result<(), Fail> {
@@ -73,6 +76,9 @@ fn others_differ(rt: HostRuntime) -> Result<(), Fail> {
     write(&rt, "madt", TWO)?;
     let line = "bytes without a name differ\n";
     ends(&rt, &["diff", "nameless", "turned"], 1, &[line], &[])?;
+    write(&rt, "larger", LARGER)?;
+    let lines = ["at 9: Checksum: 0x7f, 0x7e\n", line];
+    ends(&rt, &["diff", "nameless", "larger"], 1, &lines, &[])?;
     let line = "the signatures differ: OEMX, APIC\n";
     ends(&rt, &["diff", "nameless", "madt"], 1, &[line], &[])
 }

@@ -144,7 +144,7 @@ fn files_are_kept(rt: HostRuntime) -> Result<(), Fail> {
     let there = "old_made/etc/acpi/tables: the file is there, and stays as it is\n";
     ends(&rt, &["loader", "again", "old_made"], 1, &[], &[there])?;
     write(&rt, "no", b"kept")?;
-    let line = "no: the file is there, and stays as it is\n";
+    let line = "no: a file, not a folder\n";
     ends(&rt, &["loader", "again", "no"], 1, &[], &[line])
 }
 

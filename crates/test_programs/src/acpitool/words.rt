@@ -70,7 +70,7 @@ fn wrong_commands(rt: HostRuntime) -> Result<(), Fail> {
             (&["names"], "no file with a definition block\n"),
             (&["names", "--json"], "no file with a definition block\n"),
             (&["unpack"], "no file to unpack\n"),
-            (&["unpack", "x"], "no folder for the tables\n"),
+            (&["unpack", "x"], "no folder for the files\n"),
             (
                 &["unpack", "x", "y", "z"],
                 "not an address in hexadecimal: z\n",
@@ -83,11 +83,11 @@ fn wrong_commands(rt: HostRuntime) -> Result<(), Fail> {
             (&["tree", "--dot"], "no file to draw\n"),
             (&["tree", "x", "y"], "unknown word y\n"),
             (&["loader"], "no folder with tables\n"),
-            (&["loader", "x"], "no folder for the tables\n"),
+            (&["loader", "x"], "no folder for the files\n"),
             (&["loader", "x", "y", "z"], "unknown word z\n"),
             (
                 &["disassemble", "x", "MTHD=1", "y"],
-                "not NAME=N with N from 0 to 7: y\n",
+                "not NAME=N with names of four characters and N from 0 to 7: y\n",
             ),
         ],
     )
