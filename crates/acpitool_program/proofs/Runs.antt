@@ -192,7 +192,7 @@ file_drawn_kept : (dot : Bool) (name : List ℕ) (o o' o'' e e' : Option (List �
     → DrawsFile dot name o o' e e' s → DrawsFile dot name o o'' e e' s
 file_drawn_kept dot name o o' o'' e e' s kept (inl (bytes, inl all)) = inl (
   bytes,
-  inl (record { walk = all.walk; has = all.has; wrote = appends_kept o o' o'' _ all.wrote kept; silent = all.silent; is = all.is }),
+  inl (record { walk = all.walk; has = all.has; wrote = appends_kept o o' o'' _ all.wrote kept; told = all.told }),
 )
 file_drawn_kept dot name o o' o'' e e' s kept (inl (bytes, inr not)) = inl (
   bytes,
