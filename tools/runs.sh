@@ -202,3 +202,9 @@ ends 1 'refused at 4: TableLength' table /dev/zero
 (ulimit -v 100000 && ends 1 'refused: Memory' aml /dev/zero)
 output=/dev/full
 ends 1 "the output can't be written" table "$work/acpi/package"
+
+# acpitool, too, says which word is no text.
+status=0
+said=$("$tool" show "$(printf 'table\377')" 2>&1) || status=$?
+expect "$said" "acpitool: a word isn't UTF-8"
+expect "status $status" 'status 2'
