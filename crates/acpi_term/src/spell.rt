@@ -1,4 +1,4 @@
-//! A simple writer of terms, for tests to compare with.
+//! The bytes of a list of terms, each at the width that it has.
 
 ghost use Rattle.std.specs.Prelude.{◌≡◌, ◌≢◌, ℕ, ◌<◌, ◌≤◌, ◌^◌, ◌∷◌, ◌++◌, OnOk, IfOk, IfErr, map};
 ghost use Rattle.acpi_base.specs.Number.{number_limit, number_bytes};
