@@ -14,7 +14,7 @@ pub mod macros;
 mod name;
 pub mod namespace;
 mod note;
-mod number;
+pub mod number;
 pub mod objects;
 mod opening;
 mod paths;

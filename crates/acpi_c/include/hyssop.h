@@ -88,7 +88,7 @@ enum hyssop_fault {
     HYSSOP_FAULT_WANTS_SLASH = 72, /* expected a second slash */
     HYSSOP_FAULT_WANTS_BRACE = 73, /* expected a brace at the end of the names */
     HYSSOP_FAULT_WANTS_FIELD = 74, /* expected bytes, since the line has no field */
-    HYSSOP_FAULT_WANTS_NAME = 75, /* expected a name of a flag or a value of this field; a bar between spaces stands between flags */
+    HYSSOP_FAULT_WANTS_NAME = 75, /* expected a name that this field has; a bar between spaces joins flags of different bits */
     HYSSOP_FAULT_WANTS_NUMBER = 76, /* expected a number that fits the field */
     HYSSOP_FAULT_WANTS_LABEL = 77, /* expected the label of a structure */
     HYSSOP_FAULT_WANTS_BYTES = 78, /* expected bytes, since nothing determines the question marks */

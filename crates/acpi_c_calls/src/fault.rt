@@ -142,7 +142,7 @@ macro_rules! faults {
             WantsSlash 72 "expected a second slash"
             WantsBrace 73 "expected a brace at the end of the names"
             WantsField 74 "expected bytes, since the line has no field"
-            WantsName 75 "expected a name of a flag or a value of this field; a bar between spaces stands between flags"
+            WantsName 75 "expected a name that this field has; a bar between spaces joins flags of different bits"
             WantsNumber 76 "expected a number that fits the field"
             WantsLabel 77 "expected the label of a structure"
             WantsBytes 78 "expected bytes, since nothing determines the question marks"

@@ -20,6 +20,7 @@ use Rattle.acpi_make.specs.Source.{Source}
 use Rattle.acpi_make.specs.declared.draft.Mark.{Mark}
 use Rattle.acpi_make.specs.declared.item.Item.{Item}
 use Rattle.acpi_make.specs.declared.extent.Own.{Own}
+use Rattle.acpi_make.specs.declared.file_kind.FileKind.{FileKind}
 use Rattle.acpi_make.proofs.Truth.{then_is, unless_is, doubt_is}
 
 -- ---- which way a line went
@@ -223,10 +224,11 @@ module _ (s t : Source) where
 
 -- ---- texts that are made
 
-nothing_wrong : {A : Type 0} (walk : Option Walk) (s : Source) (d : Drafted) (owns : List Own) (bytes : List ℕ) (wrong : Option Fault)
-    (outcome : Result A Fault) (value : A) → unless (blamed walk s d owns bytes wrong) outcome ≡ Ok value → wrong ≡ None
-nothing_wrong walk s d owns bytes None outcome value is = refl
-nothing_wrong walk s d owns bytes (Some wrong) outcome value is = absurd cc
+nothing_wrong : {A : Type 0} (file_kind : FileKind) (walk : Option Walk) (s : Source) (d : Drafted) (owns : List Own)
+    (bytes : List ℕ) (wrong : Option Fault)
+    (outcome : Result A Fault) (value : A) → unless (blamed file_kind walk s d owns bytes wrong) outcome ≡ Ok value → wrong ≡ None
+nothing_wrong file_kind walk s d owns bytes None outcome value is = refl
+nothing_wrong file_kind walk s d owns bytes (Some wrong) outcome value is = absurd cc
 
 texts_shown_by : (walk : Option Walk) (s : Source) (parts : List Item) (d : Drafted) (table : Table) → all_taken s parts nothing_yet ≡ Ok d
     → difference walk s d table.bytes ≡ Ok None → IsShown walk s parts table
@@ -256,7 +258,7 @@ texts_shown walk file_kind s parts table is =
     let whole = unless_is (short file_kind walk s d) _ table owns.follows in
     let two = then_is (completed file_kind (owns.middle ++ none_own walk d.marks (length d.cells)) d.cells) _ table whole in
     let three = then_is (difference walk s d two.middle) _ table two.follows in
-    let none = nothing_wrong walk s d owns.middle two.middle three.middle _ table three.follows in
-    let same : made_of file_kind owns.middle two.middle ≡ table = let e = unless_is (blamed walk s d owns.middle two.middle three.middle) _ table three.follows in cc in
+    let none = nothing_wrong file_kind walk s d owns.middle two.middle three.middle _ table three.follows in
+    let same : made_of file_kind owns.middle two.middle ≡ table = let e = unless_is (blamed file_kind walk s d owns.middle two.middle three.middle) _ table three.follows in cc in
     subst (λ made. IsShown walk s parts made) same
     (texts_shown_by walk s parts d (made_of file_kind owns.middle two.middle) one.is (three.is ∙ ap Ok none))

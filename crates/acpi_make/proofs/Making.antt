@@ -295,7 +295,7 @@ tables_made form walk kind file_kind bytes are small = record { table = made_of 
     owns = sizes_own file_kind walk d ++ table_own s d.cells d.marks
 
     outcome : Option Fault → Result Table Fault
-    outcome wrong = unless (blamed walk s d owns bytes wrong) (Ok (made_of file_kind owns bytes))
+    outcome wrong = unless (blamed file_kind walk s d owns bytes wrong) (Ok (made_of file_kind owns bytes))
 
     same_lines : difference walk s d bytes ≡ Ok None
     same_lines =
@@ -307,7 +307,7 @@ tables_made form walk kind file_kind bytes are small = record { table = made_of 
     rest : List Own → Result Table Fault
     rest found =
         and_then (completed file_kind (found ++ none_own walk d.marks (length d.cells)) d.cells) (λ bytes.
-        and_then (difference walk s d bytes) (λ wrong. unless (blamed walk s d found bytes wrong) (Ok (made_of file_kind found bytes))))
+        and_then (difference walk s d bytes) (λ wrong. unless (blamed file_kind walk s d found bytes wrong) (Ok (made_of file_kind found bytes))))
 
     completes : completed file_kind (owns ++ none_own walk d.marks (length d.cells)) d.cells ≡ Ok bytes
     completes = ap (completed file_kind (owns ++ none_own walk d.marks (length d.cells))) all.same
@@ -319,7 +319,7 @@ tables_made form walk kind file_kind bytes are small = record { table = made_of 
         (nothing_referred s.text d.marks d.marks all.none)
         ∙ ap (λ wrong. unless wrong (rest owns)) (all_whole file_kind walk s d bytes all.same)
         ∙ ap (λ done. and_then done (λ bytes.
-        and_then (difference walk s d bytes) (λ wrong. unless (blamed walk s d owns bytes wrong) (Ok (made_of file_kind owns bytes))))) completes
+        and_then (difference walk s d bytes) (λ wrong. unless (blamed file_kind walk s d owns bytes wrong) (Ok (made_of file_kind owns bytes))))) completes
         ∙ ap (λ found. and_then found outcome) same_lines
 
     is : made_text file_kind walk s ≡ Ok (made_of file_kind owns bytes)

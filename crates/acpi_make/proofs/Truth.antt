@@ -124,7 +124,7 @@ finished_is file_kind walk s d table is =
     let whole = unless_is (short file_kind walk s d) _ table one.follows in
     let two = then_is (completed file_kind (one.middle ++ none_own walk d.marks (length d.cells)) d.cells) _ table whole in
     let three = then_is (difference walk s d two.middle) _ table two.follows in
-    let same : made_of file_kind one.middle two.middle ≡ table = let e = unless_is (blamed walk s d one.middle two.middle three.middle) _ table three.follows in cc in
+    let same : made_of file_kind one.middle two.middle ≡ table = let e = unless_is (blamed file_kind walk s d one.middle two.middle three.middle) _ table three.follows in cc in
     subst (λ made. IsFinished file_kind walk s d made) same
     (record {
       references = referred.middle;

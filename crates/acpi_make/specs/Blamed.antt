@@ -1,9 +1,10 @@
 -- Which number of a text is the cause, where its lines aren't those of the text that shows the table.
-use Rattle.std.specs.Prelude.{ℕ, ◌-◌, nat_le, ◌&&◌, Bool, true, false, if◌then◌else◌, List, [], ◌∷◌, length, take}
+use Rattle.std.specs.Prelude.{ℕ, ◌-◌, ◌==◌, nat_le, ◌&&◌, not, Bool, true, false, if◌then◌else◌, List, [], ◌∷◌, length, take}
 use Rattle.std.specs.Prelude.{Option, Some, None, Result, Ok, Err}
 use Rattle.acpi_base.specs.Bytes.{le, put}
 use Rattle.acpi_base.specs.declared.walk.Walk.{Walk}
 use Rattle.acpi_make.specs.Compare.{difference}
+use Rattle.acpi_make.specs.Complete.{length_own}
 use Rattle.acpi_make.specs.Draft.{Drafted, or_fault}
 use Rattle.acpi_make.specs.Fault.{Fault}
 use Rattle.acpi_make.specs.Notes.{is_untrue}
@@ -11,12 +12,13 @@ use Rattle.acpi_make.specs.Another.{another_at}
 use Rattle.acpi_make.specs.Source.{Source}
 use Rattle.acpi_make.specs.declared.draft.Mark.{Mark}
 use Rattle.acpi_make.specs.declared.extent.Own.{Own}
+use Rattle.acpi_make.specs.declared.file_kind.FileKind.{FileKind}
 
--- The first number that isn't in its field. The standard header's fields have no lines after them by which a table is shown.
-abbrev pub first_untrue : List Own → List ℕ → Option Own
-first_untrue [] bytes = None
-first_untrue (one ∷ owns) bytes =
-    if nat_le 36 one.offset && is_untrue one bytes then Some one else first_untrue owns bytes
+-- The first number that isn't in its field, other than the length of all bytes at this offset. No line is shown by this length.
+abbrev pub first_untrue : ℕ → List Own → List ℕ → Option Own
+first_untrue length_at [] bytes = None
+first_untrue length_at (one ∷ owns) bytes =
+    if not (one.offset == length_at) && is_untrue one bytes then Some one else first_untrue length_at owns bytes
 
 -- the fault of the line of a number
 abbrev pub another_own : Source → List Mark → Option Own → Option Fault
@@ -52,8 +54,8 @@ cause true number wrong = or_fault number wrong
 cause false number wrong = wrong
 
 -- What is wrong with a text whose lines are others than those of the table of these bytes.
-abbrev pub blamed : Option Walk → Source → Drafted → List Own → List ℕ → Option Fault → Option Fault
-blamed walk s d owns bytes (Some wrong) =
+abbrev pub blamed : FileKind → Option Walk → Source → Drafted → List Own → List ℕ → Option Fault → Option Fault
+blamed file_kind walk s d owns bytes (Some wrong) =
     Some (cause (has_lines (difference walk s d (with_numbers owns bytes)))
-    (another_own s d.marks (first_untrue owns bytes)) wrong)
-blamed walk s d owns bytes None = None
+    (another_own s d.marks (first_untrue (length_own file_kind 0).offset owns bytes)) wrong)
+blamed file_kind walk s d owns bytes None = None

@@ -55,7 +55,7 @@ finished file_kind walk s d =
     unless (short file_kind walk s d) (
     and_then (completed file_kind (owns ++ none_own walk d.marks (length d.cells)) d.cells) (λ bytes.
     and_then (difference walk s d bytes) (λ wrong.
-    unless (blamed walk s d owns bytes wrong) (Ok (made_of file_kind owns bytes))))))
+    unless (blamed file_kind walk s d owns bytes wrong) (Ok (made_of file_kind owns bytes))))))
 
 -- an outcome, in which what was in doubt before comes before other faults
 abbrev pub or_doubt : {A : Type 0} → Option Fault → Result A Fault → Result A Fault

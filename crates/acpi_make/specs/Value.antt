@@ -1,5 +1,6 @@
 -- Numbers by name and in decimal.
-use Rattle.std.specs.Prelude.{ℕ, zero, suc, ◌-◌, ◌==◌, nat_lt, ◌&&◌, if◌then◌else◌, bit_and, bit_or, List, [], ◌∷◌, length, take, drop}
+use Rattle.std.specs.Prelude.{ℕ, zero, suc, ◌-◌, ◌==◌, nat_lt, ◌&&◌, if◌then◌else◌, bit_and, bit_or, List, [], ◌∷◌}
+use Rattle.std.specs.Prelude.{length, take, drop}
 use Rattle.std.specs.Prelude.{Option, Some, None, codes}
 use Rattle.acpi_base.specs.Look.{Look, Part, one_flag, one_choice, one_number}
 use Rattle.acpi_base.specs.Look as looks

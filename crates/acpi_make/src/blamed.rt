@@ -1,7 +1,8 @@
 //! Which number of a text is the cause, where its lines aren't those of the text that shows the table.
 
 ghost use Rattle.std.specs.Prelude.{◌≡◌, ◌+◌, ◌≤◌, true, length, Option, Result, IfOk};
-ghost use Rattle.acpi_make.specs.Blamed.{first_untrue, another_own, has_field, with_number, with_numbers, has_lines, cause, blamed};
+ghost use Rattle.acpi_make.specs.Blamed.{first_untrue, another_own, has_field, with_number, with_numbers};
+ghost use Rattle.acpi_make.specs.Blamed.{has_lines, cause, blamed};
 ghost use Rattle.acpi_make.specs.Draft.{drafted, fault_in};
 ghost use Rattle.acpi_make.specs.Fault as declared;
 ghost use Rattle.acpi_make.specs.Fault.{fault_of};
@@ -10,20 +11,22 @@ ghost use Rattle.acpi_make.specs.Source.{source_of};
 
 use crate::another::another_at;
 use crate::compare::difference;
+use crate::complete::length_own;
 use crate::draft::{Draft, Mark, Source};
 use crate::extent::Own;
 use crate::fault::{Fault, MakeError};
+use crate::file_kind::FileKind;
 use crate::notes::is_untrue;
 use acpi_base::patch::write_at;
 use acpi_base::walk::Walk;
 use std::alloc::{AllocError, Global};
 
-// Returns the first number that isn't in its field after the standard header.
-fn first_untrue(owns: &[Own], bytes: &[u8]) -> Option<Own>
-    ensures { result ≡ first_untrue owns.now bytes.now }
+// Returns the first number that isn't in its field, other than the length of all bytes.
+fn first_untrue(length_at: usize, owns: &[Own], bytes: &[u8]) -> Option<Own>
+    ensures { result ≡ first_untrue length_at owns.now bytes.now }
 {
     'owns: for own in owns {
-        if 36 <= own.offset && is_untrue(own, bytes) {
+        if own.offset != length_at && is_untrue(own, bytes) {
             return Some(*own);
         }
     }
@@ -94,6 +97,7 @@ fn cause(has_lines: bool, number: Option<Fault>, wrong: Fault) -> Fault
 /// the lines are those of the table with the right numbers.
 pub fn blamed(
     alloc: Global,
+    file_kind: FileKind,
     walk: Option<Walk>,
     source: &Source,
     draft: &Draft,
@@ -102,7 +106,7 @@ pub fn blamed(
     wrong: Option<Fault>,
 ) -> Result<Option<Fault>, AllocError>
     ensures { IfOk result (λ fault. fault_in fault
-        ≡ blamed walk (source_of source.now) (drafted draft.now) owns.now bytes.now (fault_in wrong)) }
+        ≡ blamed file_kind walk (source_of source.now) (drafted draft.now) owns.now bytes.now (fault_in wrong)) }
 {
     let Some(wrong) = wrong else {
         return Ok(None);
@@ -110,6 +114,11 @@ pub fn blamed(
     let mut right = Vec::from_slice(alloc, bytes)?;
     set_numbers(owns, &mut right);
     let is_right = has_lines(difference(alloc, walk, source, draft, &right))?;
-    let number = another_own(source, &draft.marks, first_untrue(owns, bytes));
+    let length_at = length_own(file_kind, 0).offset;
+    let number = another_own(
+        source,
+        &draft.marks,
+        first_untrue(length_at, owns, bytes),
+    );
     Ok(Some(cause(is_right, number, wrong)))
 }

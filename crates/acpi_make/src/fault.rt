@@ -131,7 +131,7 @@ impl Wanted {
             Wanted::Brace => "a brace at the end of the names",
             Wanted::Field => "bytes, since the line has no field",
             Wanted::Name => {
-                "a name of a flag or a value of this field; a bar between spaces stands between flags"
+                "a name that this field has; a bar between spaces joins flags of different bits"
             }
             Wanted::Number => "a number that fits the field",
             Wanted::Label => "the label of a structure",

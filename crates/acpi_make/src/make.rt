@@ -106,7 +106,7 @@ fn finish(
     }
     let bytes = complete_all(alloc, file_kind, walk, draft, &owns)?;
     let wrong = difference(alloc, walk, source, draft, &bytes)?;
-    if let Some(fault) = blamed(alloc, walk, source, draft, &owns, &bytes, wrong)? {
+    if let Some(fault) = blamed(alloc, file_kind, walk, source, draft, &owns, &bytes, wrong)? {
         return Err(MakeError::Fault(fault));
     }
     let untrue = notes(alloc, file_kind, &owns, &bytes)?;
