@@ -115,10 +115,6 @@ pub fn blamed(
     set_numbers(owns, &mut right);
     let is_right = has_lines(difference(alloc, walk, source, draft, &right))?;
     let length_at = length_own(file_kind, 0).offset;
-    let number = another_own(
-        source,
-        &draft.marks,
-        first_untrue(length_at, owns, bytes),
-    );
+    let number = another_own(source, &draft.marks, first_untrue(length_at, owns, bytes));
     Ok(Some(cause(is_right, number, wrong)))
 }
