@@ -1,8 +1,10 @@
 -- The text of ASL without what a compiler skips: white space and comments (ACPI 6.5, 19.2.1). One space is left between two
 -- words.
 -- Of a comment that begins with `/*=` all is kept.
-use Rattle.std.specs.Prelude.{ℕ, ◌+◌, ◌-◌, nat_le, nat_lt, ◌==◌, ◌&&◌, ◌||◌, Bool, if◌then◌else◌, List, [], ◌∷◌, ◌++◌, length}
-use Rattle.std.specs.Prelude.{take, drop, codes}
+use Rattle.std.specs.Prelude.{ℕ, ◌+◌, ◌-◌, nat_le, nat_lt, ◌==◌, ◌&&◌, ◌||◌, not, Bool, false, if◌then◌else◌}
+use Rattle.std.specs.Prelude.{List, [], ◌∷◌, ◌++◌, length}
+use Rattle.std.specs.Prelude.{nat_eq, take, drop, codes}
+use Rattle.std.specs.List.{starts_with}
 use Rattle.acpi_compile.specs.declared.squeeze.Last.{Last}
 use Rattle.acpi_compile.specs.declared.squeeze.Last.TheVariants.{Mark, Word, Gap}
 use Rattle.acpi_compile.specs.declared.squeeze.State.{State}
@@ -76,8 +78,13 @@ abbrev pub squeezed_from : State → List ℕ → List ℕ
 squeezed_from state [] = ending state
 squeezed_from state (c ∷ rest) = emitted state c ++ squeezed_from (next_state state c) rest
 
+-- a text without the byte order mark that a program may have written before it
+abbrev pub unmarked : List ℕ → List ℕ
+unmarked (a ∷ b ∷ c ∷ rest) = if a == 239 && b == 187 && c == 191 then rest else a ∷ b ∷ c ∷ rest
+unmarked text = text
+
 abbrev pub squeezed : List ℕ → List ℕ
-squeezed text = squeezed_from (Code Mark) text
+squeezed text = squeezed_from (Code Mark) (unmarked text)
 
 -- ---- where a kept character stands
 
@@ -90,7 +97,7 @@ line_from state at (c ∷ rest) =
 
 -- the number of its line
 abbrev pub line_of : ℕ → List ℕ → ℕ
-line_of at text = 1 + line_from (Code Mark) at text
+line_of at text = 1 + line_from (Code Mark) at (unmarked text)
 
 -- ---- words
 
@@ -99,17 +106,33 @@ abbrev pub front_len : List ℕ → ℕ
 front_len [] = 0
 front_len (c ∷ rest) = if is_word c then 1 + front_len rest else 0
 
--- the number of characters up to the end of a note
+-- the number of characters up to the end of a note, or of its line
 abbrev pub note_len : List ℕ → ℕ
-note_len (a ∷ b ∷ rest) = if a == 42 && b == 47 then 2 else 1 + note_len (b ∷ rest)
-note_len (a ∷ []) = 1
 note_len [] = 0
+note_len (a ∷ rest) =
+    if starts_with nat_eq (a ∷ rest) (codes "*/") then 2 else (if a == 10 then 0 else 1 + note_len rest)
 
--- the number of characters of the word or the note at the front; any other character stands alone
+-- The number of characters up to the quotation mark that ends a string, or up to the end of its line. The first may be escaped.
+abbrev pub text_len : Bool → List ℕ → ℕ
+text_len escaped [] = 0
+text_len escaped (a ∷ rest) =
+    if a == 10 then 0
+    else (if not escaped && a == 34 then 1
+    else 1 + text_len (not escaped && a == 92) rest)
+
+-- whether a note is at the front
+abbrev pub begins_note : List ℕ → Bool
+begins_note kept = starts_with nat_eq kept (codes "/*=")
+
+-- the number of characters of the word, the string or the note at the front; any other character stands alone
 abbrev pub word_len : List ℕ → ℕ
 word_len [] = 0
-word_len (c ∷ rest) = if is_word c then 1 + front_len rest else (if c == 47 then 1 + note_len rest else 1)
+word_len (c ∷ rest) =
+    if is_word c then 1 + front_len rest
+    else (if c == 34 then 1 + text_len false rest
+    else (if begins_note (c ∷ rest) then 1 + note_len rest
+    else 1))
 
--- the word or the note at a place of kept characters; none at their end
+-- the word, the string or the note at a place of kept characters; none at their end
 abbrev pub word_at : ℕ → List ℕ → List ℕ
 word_at at kept = take (word_len (drop at kept)) (drop at kept)

@@ -4,7 +4,7 @@ use crate::fault::{AslError, Why, fault};
 use crate::name::name;
 use crate::node::Node;
 use crate::number::{decimal, string};
-use crate::word::{byte_of, dword_of, keyword_number, word_of};
+use crate::word::{byte_of, dword_of, keyword_number, number_of, word_of};
 use acpi_asl::word::Keyword;
 use acpi_term::name_string::NameString;
 use std::alloc::Global;
@@ -54,6 +54,17 @@ pub fn dword_at(node: &Node<'_>) -> Result<u32, AslError> {
     given(node, dword_of(node), Why::FourBytes)
 }
 
+/// A number of this many bytes.
+pub fn number_at(node: &Node<'_>, width: u8) -> Result<u64, AslError> {
+    let why = match width {
+        1 => Why::OneByte,
+        2 => Why::TwoBytes,
+        4 => Why::FourBytes,
+        _ => Why::EightBytes,
+    };
+    given(node, number_of(node, width), why)
+}
+
 /// A decimal number below a limit.
 pub fn below(node: &Node<'_>, limit: u8) -> Result<u8, AslError> {
     match decimal(node.word) {
@@ -64,9 +75,12 @@ pub fn below(node: &Node<'_>, limit: u8) -> Result<u8, AslError> {
 
 /// The bytes of a string in quotation marks.
 pub fn string_at(alloc: Global, node: &Node<'_>) -> Result<Vec<u8>, AslError> {
+    if !node.is_alone() {
+        return Err(fault(node.at, Why::Text));
+    }
     match string(alloc, node.word)? {
-        Some(bytes) if node.is_alone() => Ok(bytes),
-        _ => Err(fault(node.at, Why::Text)),
+        Ok(bytes) => Ok(bytes),
+        Err(why) => Err(fault(node.at, why)),
     }
 }
 

@@ -5,16 +5,15 @@ ghost use Rattle.acpi_base.specs.Table.{IsTrueTable};
 ghost use Rattle.acpi_asl.specs.Block.{has_terms};
 ghost use Rattle.acpi_compile.specs.Compiled.{IsKeptOf, after_note, IsShownAs, IsCompiled, is_asl};
 
-use crate::argument::dword_at;
+use crate::argument::{dword_at, string_at};
 use crate::builder::{MAX_LISTS, nodes_of};
 use crate::fault::{AslError, Why, fault, unwritten};
 use crate::node::{Node, list_of, word_node};
 use crate::note::after;
-use crate::number::{decimal, string};
-use crate::squeeze::{is_word, squeezed, word_at};
-use crate::stated::{last, stated};
+use crate::number::decimal;
+use crate::squeeze::{begins_note, from, squeezed, word_at, word_len};
+use crate::stated::{first_use, last, stated};
 use crate::term::{Context, statements};
-use crate::word::dword_of;
 use acpi_asl::block::{BlockText, has_terms, text_in_part, text_of_block};
 use acpi_base::sdt::Sdt;
 use acpi_read::table::Table;
@@ -26,10 +25,8 @@ use std::alloc::{AllocError, Global};
 
 // The bytes of a string, and zeros after them.
 fn padded<const N: usize>(alloc: Global, node: &Node<'_>) -> Result<[u8; N], AslError> {
-    let Some(bytes) = string(alloc, node.word)? else {
-        return Err(fault(node.at, Why::Text));
-    };
-    if bytes.len() > N || !node.is_alone() {
+    let bytes = string_at(alloc, node)?;
+    if bytes.len() > N {
         return Err(fault(node.at, Why::Text));
     }
     let mut padded = [0; N];
@@ -52,19 +49,18 @@ fn creator(alloc: Global, node: &Node<'_>) -> Result<Option<[u8; 8]>, AslError> 
     if node.note.is_empty() {
         return Ok(None);
     }
+    let at = node.start();
     let Some(inside) = inside(node.note, b"/*= Creator ", b" */") else {
-        return Err(fault(node.at, Why::Note));
+        return Err(fault(at, Why::Note));
     };
     let [id @ .., b',', b' ', _, _, _, _, _, _, _, _, _, _] = inside else {
-        return Err(fault(node.at, Why::Note));
+        return Err(fault(at, Why::Note));
     };
-    let [a, b, c, d] = padded::<4>(alloc, &word_node(node.at, &[], id))?;
+    let [a, b, c, d] = padded::<4>(alloc, &word_node(at, &[], id))?;
     let Some(revision) = inside.get(id.len() + 2..) else {
-        return Err(fault(node.at, Why::Note));
+        return Err(fault(at, Why::Note));
     };
-    let Some(revision) = dword_of(&word_node(node.at, &[], revision)) else {
-        return Err(fault(node.at, Why::Note));
-    };
+    let revision = dword_at(&word_node(at, &[], revision))?;
     let [e, f, g, h] = revision.to_le_bytes();
     Ok(Some([a, b, c, d, e, f, g, h]))
 }
@@ -122,6 +118,17 @@ fn set_creator(table: &mut Sdt, creator: [u8; 8]) {
     }
 }
 
+// A text of which a block was made.
+#[derive(Clone, Copy)]
+struct Made<'a> {
+    // The text without what a compiler skips.
+    kept: &'a [u8],
+    // The place of its DefinitionBlock.
+    at: usize,
+    // The statements of the block.
+    body: &'a [Node<'a>],
+}
+
 // The number of bytes at the front that are the same.
 fn same(a: &[u8], b: &[u8]) -> usize {
     a.iter().zip(b.iter()).take_while(|(x, y)| x == y).count()
@@ -140,14 +147,19 @@ fn after_note(kept: &[u8]) -> &[u8]
 }
 
 // The ASL of a block, in which names take these numbers of arguments, without what a compiler skips.
-fn shown(alloc: Global, kept: &[u8], called: &Arities, block: &[u8]) -> Result<Vec<u8>, AslError>
+fn shown(
+    alloc: Global,
+    made: &Made<'_>,
+    called: &Arities,
+    block: &[u8],
+) -> Result<Vec<u8>, AslError>
     requires { 36 ≤ length block.now }
     ensures { IfOk result (λ text. IsKeptOf called.now block.now text.items) }
 {
     match text_of_block(alloc, BlockText::Asl, called, &[], block) {
         Ok(text) => Ok(squeezed(alloc, text.as_bytes())?),
         Err(ReadError::Memory) => Err(AslError::Memory),
-        Err(_) => Err(unreadable(alloc, kept, called, block)?),
+        Err(error) => Err(unreadable(alloc, made, called, block, error)?),
     }
 }
 
@@ -155,63 +167,53 @@ fn shown(alloc: Global, kept: &[u8], called: &Arities, block: &[u8]) -> Result<V
 // have the note on bytes that can't.
 fn unreadable(
     alloc: Global,
-    kept: &[u8],
+    made: &Made<'_>,
     called: &Arities,
     block: &[u8],
+    error: ReadError,
 ) -> Result<AslError, AslError>
     requires { 36 ≤ length block.now }
 {
     let text = text_in_part(alloc, BlockText::Asl, called, &[], block)?;
     let squeezed = squeezed(alloc, text.as_bytes())?;
-    let shown = beside(&squeezed, kept);
-    let at = place_of(shown, kept);
-    if shown.get(at..).unwrap_or(&[]).starts_with(b"/*= not read") {
-        return Ok(fault(past_space(kept, at), Why::Unreadable));
+    let shown = noted_as(&squeezed, made.kept);
+    let at = place_of(shown, made.kept);
+    if !from(at, shown).starts_with(b"/*= not read") {
+        return unlike(alloc, shown, made);
     }
-    unlike(alloc, shown, kept)
+    let at = past_space(made.kept, at);
+    match error {
+        ReadError::TooDeep(_) => Ok(fault(at, Why::TooDeep)),
+        _ => Ok(fault(at, Why::Unreadable)),
+    }
 }
 
 // The ASL of a block, with the note on the program that made it only if the text has one.
-fn beside<'a>(shown: &'a [u8], kept: &[u8]) -> &'a [u8] {
-    if kept.starts_with(b"/*=") {
+fn noted_as<'a>(shown: &'a [u8], kept: &[u8]) -> &'a [u8] {
+    if begins_note(kept) {
         shown
     } else {
         after_note(shown)
     }
 }
 
-// The first character of the word in which a character is, or of what follows a word.
+// The place of the word, the string or the note in which a character is.
 fn word_start(kept: &[u8], at: usize) -> usize {
-    let mut start = 0;
-    'characters: for (i, c) in kept.iter().enumerate() {
-        if i >= at {
+    let mut start: usize = 0;
+    'words: for _ in 0..kept.len() {
+        let next = start.saturating_add(word_len(from(start, kept)));
+        if next > at {
             break;
         }
-        if !is_word(*c) {
-            start = i.saturating_add(1);
-        }
+        start = next;
     }
     start
 }
 
-// Whether the character at a place is part of a word.
-fn is_word_at(kept: &[u8], at: usize) -> bool {
-    match kept.get(at) {
-        Some(c) => is_word(*c),
-        None => false,
-    }
-}
-
-// The place of the first word or note that isn't the same. All notes begin alike.
+// The place of the first word, string or note that isn't the same.
 fn place_of(shown: &[u8], kept: &[u8]) -> usize {
-    let mut at = same(shown, kept);
-    if is_word_at(shown, at) || is_word_at(kept, at) {
-        at = word_start(kept, at);
-    }
-    if kept.get(..at).unwrap_or(&[]).ends_with(b"/*= ") {
-        at = at.saturating_sub(4);
-    }
-    at
+    let at = same(shown, kept);
+    word_start(shown, at).min(word_start(kept, at))
 }
 
 // The place after a space, if one stands there.
@@ -220,43 +222,6 @@ fn past_space(kept: &[u8], at: usize) -> usize {
         Some(b' ') => at.saturating_add(1),
         _ => at,
     }
-}
-
-// Whether a word that begins at a place isn't the use of an object: it begins a string, or is the name that its statement makes
-// or declares.
-fn is_made(kept: &[u8], at: usize) -> bool {
-    let before = kept.get(..at).unwrap_or(&[]);
-    before.ends_with(b"\"")
-        || before.ends_with(b"DataTableRegion(")
-        || before.ends_with(b"Device(")
-        || before.ends_with(b"Event(")
-        || before.ends_with(b"External(")
-        || before.ends_with(b"Method(")
-        || before.ends_with(b"Mutex(")
-        || before.ends_with(b"Name(")
-        || before.ends_with(b"OperationRegion(")
-        || before.ends_with(b"PowerResource(")
-        || before.ends_with(b"Processor(")
-        || before.ends_with(b"ThermalZone(")
-}
-
-// Whether the use of an object begins at a place.
-fn begins_use(kept: &[u8], at: usize) -> bool {
-    let is_inside = match at.checked_sub(1) {
-        Some(before) => is_word_at(kept, before),
-        None => false,
-    };
-    is_word_at(kept, at) && !is_inside && !is_made(kept, at)
-}
-
-// The first use from a place on of an object with this last segment, or else the place.
-fn use_of(kept: &[u8], from: usize, segment: &[u8]) -> usize {
-    'characters: for at in from..kept.len() {
-        if begins_use(kept, at) && last(word_at(at, kept)) == segment {
-            return at;
-        }
-    }
-    from
 }
 
 // The statement for a name of which the block has no object, up to this name.
@@ -269,7 +234,7 @@ fn absent_at(shown: &[u8], at: usize) -> &[u8] {
         if start > at {
             break;
         }
-        let rest = shown.get(start..).unwrap_or(&[]);
+        let rest = from(start, shown);
         if let Some(rest) = after(rest, ABSENT) {
             name = word_at(0, rest);
         } else if rest.starts_with(b")") {
@@ -282,7 +247,7 @@ fn absent_at(shown: &[u8], at: usize) -> &[u8] {
 // Whether a text has this statement for a name.
 fn has_absent(kept: &[u8], name: &[u8]) -> bool {
     'characters: for start in 0..kept.len() {
-        if let Some(rest) = after(kept.get(start..).unwrap_or(&[]), ABSENT) {
+        if let Some(rest) = after(from(start, kept), ABSENT) {
             if word_at(0, rest) == name {
                 return true;
             }
@@ -293,41 +258,37 @@ fn has_absent(kept: &[u8], name: &[u8]) -> bool {
 
 // The fault of a text at its first word that the ASL of the block doesn't have. A name that the text doesn't declare is reported
 // where the text uses it.
-fn unlike(alloc: Global, shown: &[u8], kept: &[u8]) -> Result<AslError, AslError> {
+fn unlike(alloc: Global, shown: &[u8], made: &Made<'_>) -> Result<AslError, AslError> {
+    let kept = made.kept;
     let at = place_of(shown, kept);
     let name = absent_at(shown, at);
     if !name.is_empty() && !has_absent(kept, name) {
-        let at = use_of(kept, at, last(name));
-        return Ok(fault(at, Why::Undeclared(Vec::from_slice(alloc, name)?)));
+        let used = first_use(MAX_LISTS, at, last(name), made.body);
+        let why = Why::Undeclared(Vec::from_slice(alloc, name)?);
+        return Ok(fault(used.unwrap_or(at), why));
     }
     let word = Vec::from_slice(alloc, word_at(past_space(shown, at), shown))?;
     Ok(fault(past_space(kept, at), Why::Otherwise(word)))
 }
 
 // Refuses a block whose ASL is another text.
-fn check(
-    alloc: Global,
-    kept: &[u8],
-    at: usize,
-    called: &Arities,
-    block: &[u8],
-) -> Result<(), AslError>
+fn check(alloc: Global, made: &Made<'_>, called: &Arities, block: &[u8]) -> Result<(), AslError>
     requires { 36 ≤ length block.now }
     ensures table { OnOk result (IsTrueTable block.now) }
     ensures terms { OnOk result (has_terms block.now ≡ true) }
-    ensures shown { OnOk result (IsShownAs called.now block.now kept.now) }
+    ensures shown { OnOk result (IsShownAs called.now block.now made.now.kept.now) }
 {
     if !has_terms(block) || Table::check(block).is_err() {
-        return Err(fault(at, Why::Block));
+        return Err(fault(made.at, Why::Block));
     }
-    let shown = shown(alloc, kept, called, block)?;
-    if shown.as_slice() == kept {
+    let shown = shown(alloc, made, called, block)?;
+    if shown.as_slice() == made.kept {
         return Ok(());
     }
-    if after_note(&shown) == kept {
+    if after_note(&shown) == made.kept {
         return Ok(());
     }
-    Err(unlike(alloc, beside(&shown, kept), kept)?)
+    Err(unlike(alloc, noted_as(&shown, made.kept), made)?)
 }
 
 /// Makes a text into the definition block that it is the ASL of.
@@ -349,7 +310,12 @@ pub fn compile(alloc: Global, text: &[u8]) -> Result<Vec<u8>, AslError>
     let list = statements(&Context::new(alloc)?, MAX_LISTS, body)?;
     let table = block_of(alloc, node, &list.terms)?;
     let called = stated(alloc, body)?;
-    check(alloc, &kept, node.at, &called, table.as_slice())?;
+    let made = Made {
+        kept: &kept,
+        at: node.at,
+        body,
+    };
+    check(alloc, &made, &called, table.as_slice())?;
     Ok(Vec::from_slice(alloc, table.as_slice())?)
 }
 

@@ -2,7 +2,7 @@
 
 use crate::fault::{AslError, Why, fault};
 use crate::node::{Node, word_node};
-use crate::squeeze::is_word;
+use crate::squeeze::{begins_note, from, is_word};
 use std::alloc::Global;
 
 /// Lists are nested at most this deep: a term at the depth that the reader reads has two lists.
@@ -116,14 +116,15 @@ impl<'a> Builder<'a> {
         Ok(())
     }
 
-    // Refuses a note before which a word is wanted.
+    // Refuses a note that ends at a place and has no word after it.
     fn no_note(&self, at: usize) -> Result<(), AslError> {
+        let start = at.saturating_sub(self.note.len());
         if self.note.is_empty() {
             Ok(())
         } else if self.note.starts_with(b"/*= not read") {
-            Err(fault(at, Why::Unread))
+            Err(fault(start, Why::Unread))
         } else {
-            Err(fault(at, Why::Note))
+            Err(fault(start, Why::Note))
         }
     }
 
@@ -139,6 +140,9 @@ impl<'a> Builder<'a> {
             b')' => self.close(at, false),
             b'{' => self.open(at, true),
             b'}' => self.close(at, true),
+            b'=' | b'+' | b'-' | b'*' | b'/' | b'%' | b'&' | b'|' | b'!' | b'~' | b'<' | b'>' => {
+                Err(fault(at, Why::Symbol))
+            }
             _ => Err(fault(at, Why::Unexpected)),
         }
     }
@@ -159,10 +163,10 @@ enum Part {
 }
 
 // The part that a character begins.
-fn begun(i: usize, c: u8) -> Part {
+fn begun(text: &[u8], i: usize, c: u8) -> Part {
     match c {
         b'"' => Part::Text(i),
-        b'/' => Part::Note(i),
+        b'/' if begins_note(from(i, text)) => Part::Note(i),
         _ if is_word(c) => Part::Word(i),
         _ => Part::Mark,
     }
@@ -200,15 +204,15 @@ fn step<'a>(
         Part::Word(_) if is_word(c) => Ok(part),
         Part::Word(from) => {
             builder.word(from, between(text, from, i))?;
-            begin(builder, i, c)
+            begin(builder, text, i, c)
         }
-        Part::Mark => begin(builder, i, c),
+        Part::Mark => begin(builder, text, i, c),
     }
 }
 
 // Reads a character outside of words.
-fn begin(builder: &mut Builder<'_>, i: usize, c: u8) -> Result<Part, AslError> {
-    let part = begun(i, c);
+fn begin(builder: &mut Builder<'_>, text: &[u8], i: usize, c: u8) -> Result<Part, AslError> {
+    let part = begun(text, i, c);
     if let Part::Mark = part {
         builder.mark(i, c)?;
     }

@@ -3,11 +3,13 @@
 use crate::argument::{byte_at, text_at, wrong};
 use crate::fault::{AslError, Why, fault};
 use crate::node::{Node, list_of};
-use crate::number::{hex, least_bytes};
+use crate::number::hex;
 use crate::sized::{Sized, frame, number};
+use crate::squeeze::from;
 use crate::template::template;
 use acpi_aml::eisa::EISAName;
 use acpi_aml::uuid::Uuid;
+use acpi_asl::number::least_bytes;
 use acpi_base::buffer::append_value;
 use acpi_base::error::Error;
 use acpi_term::term::Term;
@@ -59,7 +61,7 @@ pub fn constant(node: &Node<'_>) -> Option<Term> {
 /// A buffer with this size.
 pub fn buffer(node: &Node<'_>, size: Sized, bytes: Vec<u8>) -> Result<Sized, AslError> {
     let content = bytes.len().saturating_add(size.size);
-    let (width, all) = frame(node.length(), 1, content);
+    let (width, all) = frame(node, 1, content)?;
     Ok(Sized {
         term: Term::Buffer {
             width,
@@ -91,11 +93,11 @@ pub fn uuid(alloc: Global, node: &Node<'_>) -> Result<Sized, AslError> {
         return Err(wrong(node));
     };
     let Ok(uuid) = Uuid::new(text_at(alloc, text)?.as_str()) else {
-        return Err(fault(text.at, Why::Text));
+        return Err(fault(text.at, Why::Uuid));
     };
     let mut written = Vec::new(alloc);
     written_by(text, append_value(&uuid, &mut written))?;
-    whole_buffer(node, Vec::from_slice(alloc, after(&written, 4))?)
+    whole_buffer(node, Vec::from_slice(alloc, from(4, &written))?)
 }
 
 /// The number of an EISA id (ACPI 6.5, 19.6.37).
@@ -104,22 +106,15 @@ pub fn eisa(alloc: Global, node: &Node<'_>) -> Result<Sized, AslError> {
         return Err(wrong(node));
     };
     let Ok(id) = EISAName::new(text_at(alloc, text)?.as_str()) else {
-        return Err(fault(text.at, Why::Text));
+        return Err(fault(text.at, Why::EisaId));
     };
     let mut written = Vec::new(alloc);
     written_by(text, append_value(&id, &mut written))?;
     let mut value: u64 = 0;
-    'bytes: for byte in after(&written, 1).iter().rev() {
+    'bytes: for byte in from(1, &written).iter().rev() {
         value = value.wrapping_mul(256) | u64::from(*byte);
     }
     Ok(number(value, 4))
-}
-
-fn after(bytes: &[u8], from: usize) -> &[u8] {
-    match bytes.get(from..) {
-        Some(rest) => rest,
-        None => &[],
-    }
 }
 
 fn written_by(node: &Node<'_>, written: Result<(), Error>) -> Result<(), AslError> {

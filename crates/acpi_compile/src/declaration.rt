@@ -96,7 +96,7 @@ pub fn field(alloc: Global, node: &Node<'_>) -> Result<Sized, AslError> {
     } = rules_at(access, lock, update)?;
     let name = name_at(alloc, name)?;
     let Entries { entries, size, .. } = read_entries(alloc, list_of(&node.body))?;
-    let (width, size) = frame(node.length(), 2, plus(&name, 1).saturating_add(size));
+    let (width, size) = frame(node, 2, plus(&name, 1).saturating_add(size))?;
     Ok(Sized {
         term: Term::Field {
             width,
@@ -124,7 +124,7 @@ pub fn index_field(alloc: Global, node: &Node<'_>) -> Result<Sized, AslError> {
     let name = name_at(alloc, name)?;
     let Entries { entries, size, .. } = read_entries(alloc, list_of(&node.body))?;
     let names = plus(&index, plus(&name, 1));
-    let (width, size) = frame(node.length(), 2, names.saturating_add(size));
+    let (width, size) = frame(node, 2, names.saturating_add(size))?;
     Ok(Sized {
         term: Term::IndexField {
             width,

@@ -1,11 +1,15 @@
 //! The entries of fields (ACPI 6.5, 19.6.46 and 20.2.5.2).
 
+use crate::argument::{byte_at, keyword_at};
+use crate::constant::bytes_of;
 use crate::fault::{AslError, Why, fault};
 use crate::item::item;
 use crate::name::{name, segment};
 use crate::node::{Node, list_of};
-use crate::number::{decimal, hex, least_bytes};
-use crate::word::{byte_of, is_keyword, keyword_number};
+use crate::number::{decimal, hex};
+use crate::sized::{can_say, frame};
+use crate::word::is_keyword;
+use acpi_asl::number::least_bytes;
 use acpi_asl::word::Keyword;
 use acpi_term::row::least_width;
 use acpi_term::term::TermEntry;
@@ -24,11 +28,12 @@ fn wrong(node: &Node<'_>) -> AslError {
     fault(node.at, Why::Entry)
 }
 
-// The width of the length of an entry which a node begins: that of its note, or else the least one.
-fn width_of(node: &Node<'_>, n: usize) -> u8 {
+// The width of a number of bits for an entry which a node begins: that of its note, or else the least one.
+fn width_of(node: &Node<'_>, bits: u32) -> Result<u8, AslError> {
     match node.length() {
-        Some(width) => width,
-        None => least_width(n),
+        Some(width) if can_say(width, bits as usize) => Ok(width),
+        Some(_) => Err(fault(node.start(), Why::TooLong)),
+        None => Ok(least_width(bits as usize)),
     }
 }
 
@@ -50,7 +55,7 @@ impl Entries {
     // Adds bits without a name, which a node begins.
     fn reserved(&mut self, node: &Node<'_>, bits: u32) -> Result<(), AslError> {
         self.bit = self.bit.saturating_add(u64::from(bits));
-        let width = width_of(node, bits as usize);
+        let width = width_of(node, bits)?;
         self.add(TermEntry::Reserved(bits, width), 1 + usize::from(width))
     }
 
@@ -70,7 +75,7 @@ impl Entries {
             return Err(wrong(name));
         };
         self.bit = self.bit.saturating_add(u64::from(bits));
-        let width = width_of(name, bits as usize);
+        let width = width_of(name, bits)?;
         self.add(
             TermEntry::Named(segment, bits, width),
             4 + usize::from(width),
@@ -83,7 +88,7 @@ impl Entries {
             return Err(wrong(node));
         };
         let Some(byte) = hex(argument.word) else {
-            return Err(wrong(argument));
+            return Err(fault(argument.at, Why::Number));
         };
         let bits = byte.value.saturating_mul(8).saturating_sub(self.bit);
         self.reserved(node, encoded(argument, bits)?)
@@ -94,15 +99,11 @@ impl Entries {
         let [access, attribute] = list_of(&node.arguments) else {
             return Err(wrong(node));
         };
-        let Some(access) = keyword_number(Keyword::AccessType, access) else {
-            return Err(wrong(access));
-        };
+        let access = keyword_at(Keyword::AccessType, access)?;
         if let [size] = list_of(&attribute.arguments) {
             return self.extended(access, attribute, size);
         }
-        let Some(attribute) = keyword_number(Keyword::AccessAttribute, attribute) else {
-            return Err(wrong(attribute));
-        };
+        let attribute = keyword_at(Keyword::AccessAttribute, attribute)?;
         self.add(TermEntry::AccessAs(access, attribute), 3)
     }
 
@@ -120,12 +121,8 @@ impl Entries {
             arguments: None,
             body: None,
         };
-        let Some(attribute) = keyword_number(Keyword::ExtendedAttribute, &word) else {
-            return Err(wrong(&word));
-        };
-        let Some(size) = byte_of(size) else {
-            return Err(wrong(size));
-        };
+        let attribute = keyword_at(Keyword::ExtendedAttribute, &word)?;
+        let size = byte_at(size)?;
         self.add(TermEntry::ExtendedAccessAs(access, attribute, size), 4)
     }
 
@@ -154,15 +151,9 @@ impl Entries {
             return Err(wrong(buffer));
         };
         let Some((size, width)) = size_of(size) else {
-            return Err(wrong(size));
+            return Err(fault(size.at, Why::Number));
         };
-        let mut bytes = Vec::new(alloc);
-        'bytes: for byte in list_of(&buffer.body) {
-            let Some(number) = byte_of(byte) else {
-                return Err(wrong(byte));
-            };
-            bytes.push(number)?;
-        }
+        let bytes = bytes_of(alloc, list_of(&buffer.body))?;
         self.buffer(node, size, width, bytes)
     }
 
@@ -175,7 +166,7 @@ impl Entries {
         bytes: Vec<u8>,
     ) -> Result<(), AslError> {
         let content = bytes.len().saturating_add(1 + usize::from(size_width));
-        let width = width_of(node, content);
+        let (width, all) = frame(node, 2, content)?;
         self.add(
             TermEntry::ConnectionBuffer {
                 width,
@@ -183,7 +174,7 @@ impl Entries {
                 size_width,
                 bytes,
             },
-            content.saturating_add(2 + usize::from(width)),
+            all,
         )
     }
 }

@@ -20,6 +20,8 @@ pub enum Why {
     Signature,
     /// A parenthesis, a brace, a comma or a word isn't expected.
     Unexpected,
+    /// An operator is a symbol (ACPI 6.5, 19.2.6), not a word.
+    Symbol,
     /// A parenthesis, a brace or a string has no end.
     Unfinished,
     /// The lists are nested too deep.
@@ -34,25 +36,33 @@ pub enum Why {
     TwoBytes,
     /// One of four bytes has another form than `0x` and eight digits.
     FourBytes,
+    /// One of eight bytes has another form than `0x` and sixteen digits.
+    EightBytes,
     /// A count has another form than decimal digits, or is too large.
     Count,
     /// A string has another form, or more characters than its place.
     Text,
+    /// A string has another escape than two backslashes, a quotation mark after one, or `\x` and two digits.
+    Escape,
+    /// A UUID has another form.
+    Uuid,
+    /// An EISA id has another form.
+    EisaId,
     /// A word is neither a keyword nor a name.
     Word,
     /// A keyword isn't one of those of its argument.
     Keyword,
     /// An entry of a field has another form.
     Entry,
-    /// A resource descriptor has no macro of this name, or the macro has other arguments.
+    /// A resource descriptor has no macro of this name, or the macro has another number of arguments.
     Descriptor,
     /// A note isn't known, or not here.
     Note,
     /// A note has bytes that can't be read as terms.
     Unread,
-    /// Terms that can't be read again: a call lacks arguments, or terms are nested too deep.
+    /// Terms that can't be read again, as where a call lacks arguments.
     Unreadable,
-    /// A list, a number or a table is too long.
+    /// A list, a number or a table is too long, also for the length that a note states.
     TooLong,
     /// The block has no object of this name, and the text has no External statement for it.
     Undeclared(Vec<u8>),
@@ -112,6 +122,7 @@ impl Why {
             Why::Block => text.push_str("a DefinitionBlock is expected, and nothing after it"),
             Why::Signature => text.push_str("the signature DSDT, SSDT, PSDT or OSDT is expected"),
             Why::Unexpected => text.push_str("not expected here"),
+            Why::Symbol => text.push_str("operators are words here, such as Add and Store"),
             Why::Unfinished => text.push_str("a parenthesis, a brace or a string has no end"),
             Why::TooDeep => text.push_str("nested too deep"),
             Why::Arguments => text.push_str("other arguments are expected"),
@@ -119,10 +130,18 @@ impl Why {
             Why::OneByte => text.push_str("a number of one byte is expected: 0x and 2 digits"),
             Why::TwoBytes => text.push_str("a number of two bytes is expected: 0x and 4 digits"),
             Why::FourBytes => text.push_str("a number of four bytes is expected: 0x and 8 digits"),
+            Why::EightBytes => {
+                text.push_str("a number of eight bytes is expected: 0x and 16 digits")
+            }
             Why::Count => text.push_str(
                 "a number in decimal digits is expected, and none above its limit",
             ),
             Why::Text => text.push_str("a string is expected, with as many characters as fit"),
+            Why::Escape => text.push_str(
+                "after a backslash, another, a quotation mark, or x and two digits are expected",
+            ),
+            Why::Uuid => text.push_str("a UUID is expected: 8-4-4-4-12 hexadecimal digits"),
+            Why::EisaId => text.push_str("an EISA id is expected: 3 letters and 4 digits"),
             Why::Word => text.push_str("neither a keyword nor a name"),
             Why::Keyword => text.push_str("another keyword is expected"),
             Why::Entry => text.push_str("not an entry of a field"),
@@ -131,9 +150,7 @@ impl Why {
             ),
             Why::Note => text.push_str("the note isn't known here"),
             Why::Unread => text.push_str("bytes that aren't read make no block"),
-            Why::Unreadable => text.push_str(
-                "no terms from here on: a call may lack arguments, or terms are nested too deep",
-            ),
+            Why::Unreadable => { text.push_str("no terms from here on: a call may lack arguments") }
             Why::TooLong => text.push_str("a length or a number is too large"),
             Why::Undeclared(name) => push_undeclared(name, text),
             Why::Otherwise(word) => push_otherwise(word, text),

@@ -1,9 +1,9 @@
 //! Resource descriptors, made of their macros: the inverse of the tables that say how they are shown (ACPI 6.5, 6.4 and 19.2.8).
 
+use crate::argument::{below, byte_at, number_at, string_at};
 use crate::fault::{AslError, Why, fault};
 use crate::node::{Node, list_of};
-use crate::number::{decimal, string};
-use crate::word::{byte_of, number_in, number_of};
+use crate::word::number_in;
 use acpi_asl::descriptor::{Bits, Braces, Check, Offset, Part, words};
 use acpi_asl::macros::{Descriptor, checks, descriptors, macro_word, parts, tail};
 use std::alloc::{AllocError, Global};
@@ -126,135 +126,99 @@ fn state(item: &mut [u8], offset: Offset) {
 // ---- the list in braces
 
 // The bits of channels, of which the highest is below a limit.
-fn mask(nodes: &[Node<'_>], limit: u32) -> Option<u16> {
+fn mask(nodes: &[Node<'_>], limit: u8) -> Result<u16, AslError> {
     let mut mask: u16 = 0;
     'channels: for node in nodes {
-        let channel = decimal(node.word)?;
-        if channel >= limit || !node.is_alone() {
-            return None;
-        }
-        mask |= 1u16.wrapping_shl(channel);
+        mask |= 1u16.wrapping_shl(u32::from(below(node, limit)?));
     }
-    Some(mask)
+    Ok(mask)
 }
 
 // Adds numbers of this many bytes.
-fn push_numbers(nodes: &[Node<'_>], width: u8, item: &mut Vec<u8>) -> Result<bool, AllocError> {
+fn push_numbers(nodes: &[Node<'_>], width: u8, item: &mut Vec<u8>) -> Result<(), AslError> {
     'numbers: for node in nodes {
-        let Some(number) = number_of(node, width) else {
-            return Ok(false);
-        };
-        let bytes = number.to_le_bytes();
+        let bytes = number_at(node, width)?.to_le_bytes();
         let (front, _) = bytes.split_at(usize::from(width.min(8)));
         item.extend_from_slice(front)?;
     }
-    Ok(true)
+    Ok(())
 }
 
-// Adds the list of a descriptor. Returns whether it has the right form.
-fn push_tail(tail: Braces, nodes: &[Node<'_>], item: &mut Vec<u8>) -> Result<bool, AllocError> {
+// Adds the list of a descriptor.
+fn push_tail(tail: Braces, node: &Node<'_>, item: &mut Vec<u8>) -> Result<(), AslError> {
+    let nodes = list_of(&node.body);
     match tail {
-        Braces::Absent => Ok(true),
-        Braces::Irqs => {
-            let Some(irqs) = mask(nodes, 16) else {
-                return Ok(false);
-            };
-            set_number(item, 1, 2, u64::from(irqs));
-            Ok(true)
-        }
-        Braces::Channels => {
-            let Some(channels) = mask(nodes, 8) else {
-                return Ok(false);
-            };
-            set_number(item, 1, 1, u64::from(channels));
-            Ok(true)
-        }
+        Braces::Absent => {}
+        Braces::Irqs => set_number(item, 1, 2, u64::from(mask(nodes, 16)?)),
+        Braces::Channels => set_number(item, 1, 1, u64::from(mask(nodes, 8)?)),
         Braces::Dwords(..) => {
             let Ok(count) = u8::try_from(nodes.len()) else {
-                return Ok(false);
+                return Err(fault(node.at, Why::TooLong));
             };
             put(item, 4, count);
-            push_numbers(nodes, 4, item)
+            push_numbers(nodes, 4, item)?;
         }
         Braces::Pairs(_, to) => {
-            let is_list = push_numbers(nodes, 2, item)?;
+            push_numbers(nodes, 2, item)?;
             state(item, to);
-            Ok(is_list)
         }
-        Braces::Bytes(_) => push_numbers(nodes, 1, item),
+        Braces::Bytes(_) => push_numbers(nodes, 1, item)?,
     }
+    Ok(())
 }
 
 // ---- arguments
 
-// Adds the characters of a string and a zero. Returns whether it is a string.
-fn push_text(alloc: Global, node: &Node<'_>, item: &mut Vec<u8>) -> Result<bool, AllocError> {
-    match string(alloc, node.word)? {
-        Some(bytes) if node.is_alone() => {
-            item.extend_from_slice(&bytes)?;
-            item.push(0)?;
-            Ok(true)
-        }
-        _ => Ok(false),
-    }
+// Adds the characters of a string and a zero.
+fn push_text(alloc: Global, node: &Node<'_>, item: &mut Vec<u8>) -> Result<(), AslError> {
+    let bytes = string_at(alloc, node)?;
+    item.extend_from_slice(&bytes)?;
+    item.push(0)?;
+    Ok(())
 }
 
-// Adds an argument. Returns whether it has the right form.
+// Adds an argument.
 fn push_part(
     alloc: Global,
     part: Part,
     node: &Node<'_>,
     item: &mut Vec<u8>,
-) -> Result<bool, AllocError> {
+) -> Result<(), AslError> {
     match part {
-        Part::Word(bits, kind) => {
-            let Some(value) = number_in(words(kind), node.word) else {
-                return Ok(false);
-            };
-            set_bits(item, bits, value);
-            Ok(node.is_alone())
-        }
-        Part::Number(at, width) => {
-            let Some(value) = number_of(node, width) else {
-                return Ok(false);
-            };
-            set_number(item, at, width, value);
-            Ok(true)
-        }
-        Part::Blank => Ok(node.is_absent()),
-        Part::Tag(..) => Ok(node.is_alone()),
+        Part::Word(bits, kind) => match number_in(words(kind), node.word) {
+            Some(value) if node.is_alone() => set_bits(item, bits, value),
+            _ => return Err(fault(node.at, Why::Keyword)),
+        },
+        Part::Number(at, width) => set_number(item, at, width, number_at(node, width)?),
+        Part::Blank if node.is_absent() => {}
+        Part::Tag(..) if node.is_alone() => {}
+        Part::Blank | Part::Tag(..) => return Err(fault(node.at, Why::Unexpected)),
         Part::Text(_, to) => {
-            let is_text = push_text(alloc, node, item)?;
+            push_text(alloc, node, item)?;
             state(item, to);
-            Ok(is_text)
         }
-        Part::Index(_) | Part::Source(_) if node.is_absent() => Ok(true),
-        Part::Index(_) => {
-            let Some(index) = byte_of(node) else {
-                return Ok(false);
-            };
-            item.push(index)?;
-            Ok(true)
-        }
-        Part::Source(_) => push_text(alloc, node, item),
+        Part::Index(_) | Part::Source(_) if node.is_absent() => {}
+        Part::Index(_) => item.push(byte_at(node)?)?,
+        Part::Source(_) => push_text(alloc, node, item)?,
     }
+    Ok(())
 }
 
+// Adds the arguments of a macro.
 fn push_parts(
     alloc: Global,
     parts: &[Part],
-    nodes: &[Node<'_>],
+    node: &Node<'_>,
     item: &mut Vec<u8>,
-) -> Result<bool, AllocError> {
-    if parts.len() != nodes.len() {
-        return Ok(false);
+) -> Result<(), AslError> {
+    let arguments = list_of(&node.arguments);
+    if parts.len() != arguments.len() {
+        return Err(fault(node.at, Why::Descriptor));
     }
-    'parts: for (part, node) in parts.iter().zip(nodes) {
-        if !push_part(alloc, *part, node, item)? {
-            return Ok(false);
-        }
+    'parts: for (part, argument) in parts.iter().zip(arguments) {
+        push_part(alloc, *part, argument, item)?;
     }
-    Ok(true)
+    Ok(())
 }
 
 // ---- descriptors
@@ -288,11 +252,8 @@ pub fn item(alloc: Global, node: &Node<'_>) -> Result<Vec<u8>, AslError> {
         return Err(fault(node.at, Why::Descriptor));
     };
     let mut item = fixed(alloc, descriptor)?;
-    let is_list = push_tail(tail(descriptor), list_of(&node.body), &mut item)?;
-    let arguments = list_of(&node.arguments);
-    if !push_parts(alloc, parts(descriptor), arguments, &mut item)? || !is_list {
-        return Err(fault(node.at, Why::Descriptor));
-    }
+    push_tail(tail(descriptor), node, &mut item)?;
+    push_parts(alloc, parts(descriptor), node, &mut item)?;
     set_size(&mut item);
     Ok(item)
 }

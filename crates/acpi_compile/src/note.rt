@@ -28,6 +28,16 @@ fn rest_of(note: &[u8]) -> &[u8] {
 }
 
 impl Node<'_> {
+    /// The place of the first of the notes before it, or its own if there are none.
+    pub fn start(&self) -> usize {
+        self.at.saturating_sub(self.note.len())
+    }
+
+    /// The same without the note on the PkgLength.
+    pub fn note_at(&self) -> usize {
+        self.at.saturating_sub(rest_of(self.note).len())
+    }
+
     /// The number of bytes of the PkgLength of a term or of a field's entry, if a note says it.
     pub fn length(&self) -> Option<u8> {
         let (width, _) = length_note(self.note)?;

@@ -1,5 +1,6 @@
 //! The numbers and the strings of ASL.
 
+use crate::fault::Why;
 use acpi_base::digit::digit_value;
 use std::alloc::{AllocError, Global};
 
@@ -69,36 +70,37 @@ enum Escape {
     Digit(u8),
 }
 
-/// The bytes of a string between quotation marks, or none if it has another form, or characters that don't print. A byte that
-/// doesn't print is `\x` and two digits (ACPI 6.5, 19.2.4).
-pub fn string(alloc: Global, word: &[u8]) -> Result<Option<Vec<u8>>, AllocError> {
+/// The bytes of a string between quotation marks, or why it is none. A byte that doesn't print is `\x` and two digits (ACPI 6.5,
+/// 19.2.4).
+pub fn string(alloc: Global, word: &[u8]) -> Result<Result<Vec<u8>, Why>, AllocError> {
     let [b'"', inside @ .., b'"'] = word else {
-        return Ok(None);
+        return Ok(Err(Why::Text));
     };
     let mut bytes = Vec::new(alloc);
     let mut escape = Escape::Absent;
     'characters: for c in inside {
         escape = match escape {
-            _ if !(0x20..=0x7e).contains(c) => return Ok(None),
+            _ if !(0x20..=0x7e).contains(c) => return Ok(Err(Why::Text)),
             Escape::Absent if *c == b'\\' => Escape::Begun,
             Escape::Absent => {
                 bytes.push(*c)?;
                 Escape::Absent
             }
             Escape::Begun if *c == b'x' => Escape::Hex,
-            Escape::Begun => {
+            Escape::Begun if *c == b'"' || *c == b'\\' => {
                 bytes.push(*c)?;
                 Escape::Absent
             }
+            Escape::Begun => return Ok(Err(Why::Escape)),
             Escape::Hex => {
                 let Some(high) = digit_value(*c) else {
-                    return Ok(None);
+                    return Ok(Err(Why::Escape));
                 };
                 Escape::Digit(high)
             }
             Escape::Digit(high) => {
                 let Some(low) = digit_value(*c) else {
-                    return Ok(None);
+                    return Ok(Err(Why::Escape));
                 };
                 bytes.push(high.wrapping_mul(16) | low)?;
                 Escape::Absent
@@ -106,20 +108,7 @@ pub fn string(alloc: Global, word: &[u8]) -> Result<Option<Vec<u8>>, AllocError>
         };
     }
     match escape {
-        Escape::Absent => Ok(Some(bytes)),
-        _ => Ok(None),
-    }
-}
-
-/// The number of bytes of a number that stands alone.
-pub fn least_bytes(value: u64) -> u8 {
-    if value < 0x100 {
-        1
-    } else if value < 0x1_0000 {
-        2
-    } else if value < 0x1_0000_0000 {
-        4
-    } else {
-        8
+        Escape::Absent => Ok(Ok(bytes)),
+        _ => Ok(Err(Why::Escape)),
     }
 }

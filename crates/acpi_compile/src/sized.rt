@@ -1,6 +1,7 @@
 //! Terms with the number of their bytes, from which the lengths around them follow.
 
-use crate::fault::AslError;
+use crate::fault::{AslError, Why, fault};
+use crate::node::Node;
 use acpi_term::name_string::NameString;
 use acpi_term::row::least_width;
 use acpi_term::term::Term;
@@ -37,18 +38,39 @@ impl SizedList {
     }
 }
 
-/// The width of the PkgLength of this many bytes, unless another is stated, and how many bytes there are with it and an opcode.
-pub fn frame(stated: Option<u8>, code: usize, content: usize) -> (u8, usize) {
+/// Whether a PkgLength of this many bytes can say a number (ACPI 6.5, 20.2.4).
+pub fn can_say(width: u8, n: usize) -> bool {
+    match width {
+        1 => n < 0x40,
+        2 => n < 0x1000,
+        3 => n < 0x10_0000,
+        _ => n < 0x1000_0000,
+    }
+}
+
+/// The width of a PkgLength with this many bytes after it, and how many bytes there are with it and an opcode. The width may be
+/// stated at a place of the text.
+pub fn frame_at(
+    at: usize,
+    stated: Option<u8>,
+    code: usize,
+    content: usize,
+) -> Result<(u8, usize), AslError> {
     let width = match stated {
         Some(width) => width,
         None => least_width(content),
     };
-    (
-        width,
-        content
-            .saturating_add(code)
-            .saturating_add(usize::from(width)),
-    )
+    let counted = content.saturating_add(usize::from(width));
+    if can_say(width, counted) {
+        Ok((width, counted.saturating_add(code)))
+    } else {
+        Err(fault(at, Why::TooLong))
+    }
+}
+
+/// The same for a node, whose note may state the width.
+pub fn frame(node: &Node<'_>, code: usize, content: usize) -> Result<(u8, usize), AslError> {
+    frame_at(node.start(), node.length(), code, content)
 }
 
 /// The number of bytes of a name and of what follows it.

@@ -1,9 +1,9 @@
 //! The text of ASL without what a compiler skips: white space and comments (ACPI 6.5, 19.2.1).
 
-ghost use Rattle.std.specs.Prelude.{◌≡◌, ◌≤◌, ◌++◌, length, OnOk, IfOk};
+ghost use Rattle.std.specs.Prelude.{◌≡◌, ◌≤◌, ◌++◌, false, length, drop, OnOk, IfOk};
 ghost use Rattle.acpi_compile.specs.Squeeze.{is_word, is_white, gapped, next_in_code, next_state, code_bytes, emitted};
-ghost use Rattle.acpi_compile.specs.Squeeze.{ending, squeezed, line_of, front_len, note_len, word_len};
-ghost use Rattle.acpi_compile.specs.Squeeze.{word_at};
+ghost use Rattle.acpi_compile.specs.Squeeze.{ending, unmarked, squeezed, line_of, front_len, note_len, text_len};
+ghost use Rattle.acpi_compile.specs.Squeeze.{begins_note, word_len, word_at};
 
 use std::alloc::{AllocError, Global};
 
@@ -160,13 +160,24 @@ fn push_ending(state: State, kept: &mut Vec<u8>) -> Result<(), AllocError>
     }
 }
 
+// Returns a text without the byte order mark that a program may have written before it.
+fn unmarked(text: &[u8]) -> &[u8]
+    ensures { result.now ≡ unmarked text.now }
+{
+    match text {
+        [0xef, 0xbb, 0xbf, rest @ ..] => rest,
+        _ => text,
+    }
+}
+
 /// Returns a text without what a compiler skips. Of a comment that begins with `/*=` all is kept.
 pub fn squeezed(alloc: Global, text: &[u8]) -> Result<Vec<u8>, AllocError>
     ensures { IfOk result (λ kept. kept.items ≡ squeezed text.now) }
 {
     let mut kept = Vec::with_capacity(alloc, text.len())?;
     let mut state = State::Code(Last::Mark);
-    'characters: for c in text {
+    let unmarked = unmarked(text);
+    'characters: for c in unmarked {
         push_kept(state, *c, &mut kept)?;
         state = next_state(state, *c);
     }
@@ -208,7 +219,8 @@ pub fn line_of(at: usize, text: &[u8]) -> usize
     let mut line = 1;
     let mut left = at;
     let mut state = State::Code(Last::Mark);
-    'characters: for c in text {
+    let unmarked = unmarked(text);
+    'characters: for c in unmarked {
         let count = kept_len(state, *c);
         if left < count {
             return line;
@@ -239,16 +251,19 @@ fn front_len(kept: &[u8]) -> usize
     len
 }
 
-// Returns how many characters there are up to the end of a note.
+// Returns how many characters there are up to the end of a note, or of its line.
 fn note_len(kept: &[u8]) -> usize
     ensures len { result ≡ note_len kept.now }
     ensures within { result ≤ length kept.now }
 {
     let mut len = 0;
     let mut rest = kept;
-    'note: while let [_, more @ ..] = rest {
-        if let [b'*', b'/', ..] = rest {
+    'note: while let [c, more @ ..] = rest {
+        if rest.starts_with(b"*/") {
             return len + 2;
+        }
+        if *c == b'\n' {
+            return len;
         }
         len += 1;
         rest = more;
@@ -256,22 +271,60 @@ fn note_len(kept: &[u8]) -> usize
     len
 }
 
-fn word_len(kept: &[u8]) -> usize
+// Returns how many characters there are up to the quotation mark that ends a string, or up to the end of its line.
+fn text_len(kept: &[u8]) -> usize
+    ensures len { result ≡ text_len false kept.now }
+    ensures within { result ≤ length kept.now }
+{
+    let mut len = 0;
+    let mut escaped = false;
+    let mut rest = kept;
+    'text: while let [c, more @ ..] = rest {
+        if *c == b'\n' {
+            return len;
+        }
+        if !escaped && *c == b'"' {
+            return len + 1;
+        }
+        escaped = !escaped && *c == b'\\';
+        len += 1;
+        rest = more;
+    }
+    len
+}
+
+/// Returns whether a note is at the front.
+pub fn begins_note(kept: &[u8]) -> bool
+    ensures { result ≡ begins_note kept.now }
+{
+    kept.starts_with(b"/*=")
+}
+
+/// Returns how many characters the word, the string or the note at the front has. Any other character stands alone.
+pub fn word_len(kept: &[u8]) -> usize
     ensures len { result ≡ word_len kept.now }
     ensures within { result ≤ length kept.now }
 {
     match kept {
         [c, rest @ ..] if is_word(*c) => 1 + front_len(rest),
-        [b'/', rest @ ..] => 1 + note_len(rest),
+        [b'"', rest @ ..] => 1 + text_len(rest),
+        [_, rest @ ..] if begins_note(kept) => 1 + note_len(rest),
         [_, ..] => 1,
         [] => 0,
     }
 }
 
-/// Returns the word or the note at a place of kept characters, or none at their end.
+/// Returns the bytes from one on.
+pub fn from(at: usize, bytes: &[u8]) -> &[u8]
+    ensures { result.now ≡ drop at bytes.now }
+{
+    if at < bytes.len() { &bytes[at..] } else { &[] }
+}
+
+/// Returns the word, the string or the note at a place of kept characters, or none at their end.
 pub fn word_at(at: usize, kept: &[u8]) -> &[u8]
     ensures { result.now ≡ word_at at kept.now }
 {
-    let rest = &kept[at.min(kept.len())..];
+    let rest = from(at, kept);
     &rest[..word_len(rest)]
 }

@@ -4,7 +4,7 @@ use crate::builder::MAX_LISTS;
 use crate::fault::AslError;
 use crate::name::name;
 use crate::node::{Node, list_of};
-use crate::word::is_keyword;
+use crate::word::{is_keyword, is_name};
 use acpi_term::name_string::{Arities, NameString};
 use std::alloc::{AllocError, Global};
 
@@ -111,6 +111,78 @@ pub fn stated(alloc: Global, nodes: &[Node<'_>]) -> Result<Arities, AslError> {
     let mut called = none(alloc)?;
     add_called(alloc, MAX_LISTS, &declared, nodes, &mut called)?;
     Ok(called)
+}
+
+// The names that statements and operators make are no uses of objects. Returns the other arguments of a node.
+fn used<'a, 'b>(node: &'b Node<'a>) -> &'b [Node<'a>] {
+    let arguments = list_of(&node.arguments);
+    match node.word {
+        b"DataTableRegion"
+        | b"Device"
+        | b"Event"
+        | b"External"
+        | b"Method"
+        | b"Mutex"
+        | b"Name"
+        | b"OperationRegion"
+        | b"PowerResource"
+        | b"Processor"
+        | b"ThermalZone" => {
+            match arguments {
+                [_, others @ ..] => others,
+                [] => &[],
+            }
+        }
+        b"Alias"
+        | b"CreateBitField"
+        | b"CreateByteField"
+        | b"CreateDWordField"
+        | b"CreateField"
+        | b"CreateQWordField"
+        | b"CreateWordField" => match arguments {
+            [others @ .., _] => others,
+            [] => &[],
+        },
+        _ => arguments,
+    }
+}
+
+// Whether the braces of a node have the entries of a field, whose names are made there.
+fn has_entries(node: &Node<'_>) -> bool {
+    matches!(node.word, b"BankField" | b"Field" | b"IndexField")
+}
+
+/// The place of the first use, from a place on, of an object with this last segment. Lists are looked through to a depth.
+#[cycle(uses)]
+pub fn first_use(depth: usize, from: usize, segment: &[u8], nodes: &[Node<'_>]) -> Option<usize> {
+    let depth = depth.checked_sub(1)?;
+    'nodes: for node in nodes {
+        if let Some(at) = use_in(depth, from, segment, node) {
+            return Some(at);
+        }
+    }
+    None
+}
+
+// The same in a node.
+#[cycle(uses)]
+fn use_in(depth: usize, from: usize, segment: &[u8], node: &Node<'_>) -> Option<usize> {
+    if from <= node.at && is_name(node.word) && last(node.word) == segment {
+        return Some(node.at);
+    }
+    if let Some(at) = first_use(depth, from, segment, used(node)) {
+        return Some(at);
+    }
+    let body = list_of(&node.body);
+    if !has_entries(node) {
+        return first_use(depth, from, segment, body);
+    }
+    'entries: for entry in body {
+        if let Some(at) = first_use(depth, from, segment, list_of(&entry.arguments)) {
+            return Some(at);
+        }
+    }
+    None
 }
 
 // No numbers.

@@ -9,8 +9,9 @@ use crate::entry::{Entries, read_entries};
 use crate::fault::{AslError, Why, fault};
 use crate::name::name;
 use crate::node::{Node, list_of};
-use crate::sized::{Sized, SizedList, frame, number, plus};
+use crate::sized::{Sized, SizedList, frame, frame_at, number, plus};
 use crate::word::{byte_of, is_keyword, is_name, operator, operators};
+use acpi_asl::place::targets;
 use acpi_asl::word::Keyword;
 use acpi_term::op::Op;
 use acpi_term::term::{FieldNames, Term};
@@ -48,10 +49,10 @@ fn bank_field(context: &Context, depth: usize, node: &Node<'_>) -> Result<Sized,
     let Entries { entries, size, .. } = read_entries(alloc, list_of(&node.body))?;
     let names = plus(&name, plus(&bank, 1));
     let (width, size) = frame(
-        node.length(),
+        node,
         2,
         names.saturating_add(value.size).saturating_add(size),
-    );
+    )?;
     Ok(Sized {
         term: Term::BankField {
             width,
@@ -147,19 +148,19 @@ fn scope(context: &Context, depth: usize, node: &Node<'_>) -> Result<Sized, AslE
     let content = plus(&name, body.size);
     match node.word {
         b"Scope" => {
-            let (width, size) = frame(node.length(), 1, content);
+            let (width, size) = frame(node, 1, content)?;
             let body = body.terms;
             let term = Term::Scope { width, name, body };
             Ok(Sized { term, size })
         }
         b"Device" => {
-            let (width, size) = frame(node.length(), 2, content);
+            let (width, size) = frame(node, 2, content)?;
             let body = body.terms;
             let term = Term::Device { width, name, body };
             Ok(Sized { term, size })
         }
         _ => {
-            let (width, size) = frame(node.length(), 2, content);
+            let (width, size) = frame(node, 2, content)?;
             let body = body.terms;
             let term = Term::ThermalZone { width, name, body };
             Ok(Sized { term, size })
@@ -187,7 +188,7 @@ fn method(context: &Context, depth: usize, node: &Node<'_>) -> Result<Sized, Asl
     let serialized = is_serialized(serialized)?;
     let name = name_at(alloc, name)?;
     let body = statements(context, depth, list_of(&node.body))?;
-    let (width, size) = frame(node.length(), 1, plus(&name, 1).saturating_add(body.size));
+    let (width, size) = frame(node, 1, plus(&name, 1).saturating_add(body.size))?;
     let body = body.terms;
     let term = match level {
         None => Term::Method {
@@ -220,7 +221,7 @@ fn processor(context: &Context, depth: usize, node: &Node<'_>) -> Result<Sized, 
     let length = byte_at(length)?;
     let name = name_at(alloc, name)?;
     let body = statements(context, depth, list_of(&node.body))?;
-    let (width, size) = frame(node.length(), 2, plus(&name, 6).saturating_add(body.size));
+    let (width, size) = frame(node, 2, plus(&name, 6).saturating_add(body.size))?;
     Ok(Sized {
         term: Term::Processor {
             width,
@@ -244,7 +245,7 @@ fn power_resource(context: &Context, depth: usize, node: &Node<'_>) -> Result<Si
     let order = word_at(order)?;
     let name = name_at(alloc, name)?;
     let body = statements(context, depth, list_of(&node.body))?;
-    let (width, size) = frame(node.length(), 2, plus(&name, 3).saturating_add(body.size));
+    let (width, size) = frame(node, 2, plus(&name, 3).saturating_add(body.size))?;
     Ok(Sized {
         term: Term::PowerResource {
             width,
@@ -270,7 +271,7 @@ fn package(context: &Context, depth: usize, node: &Node<'_>) -> Result<Sized, As
         Some(room) if !node.is_var_package() => counted_package(node, room, elements),
         _ => {
             let count = term(context, depth, count)?;
-            let (width, size) = frame(node.length(), 1, count.size.saturating_add(elements.size));
+            let (width, size) = frame(node, 1, count.size.saturating_add(elements.size))?;
             Ok(Sized {
                 term: Term::VarPackage {
                     width,
@@ -284,7 +285,7 @@ fn package(context: &Context, depth: usize, node: &Node<'_>) -> Result<Sized, As
 }
 
 fn counted_package(node: &Node<'_>, room: u8, elements: SizedList) -> Result<Sized, AslError> {
-    let (width, size) = frame(node.length(), 1, elements.size.saturating_add(1));
+    let (width, size) = frame(node, 1, elements.size.saturating_add(1))?;
     let count = elements.terms.len();
     let elements = elements.terms;
     if count == usize::from(room) {
@@ -325,7 +326,7 @@ fn predicated(context: &Context, depth: usize, node: &Node<'_>) -> Result<Sized,
     };
     let predicate = term(context, depth, predicate)?;
     let body = statements(context, depth, list_of(&node.body))?;
-    let (width, size) = frame(node.length(), 1, predicate.size.saturating_add(body.size));
+    let (width, size) = frame(node, 1, predicate.size.saturating_add(body.size))?;
     let predicate = Box::new(alloc, predicate.term)?;
     let body = body.terms;
     let term = match node.word {
@@ -349,7 +350,7 @@ fn otherwise(context: &Context, depth: usize, node: &Node<'_>) -> Result<Sized, 
         return Err(wrong(node));
     }
     let body = statements(context, depth, list_of(&node.body))?;
-    let (width, size) = frame(node.length(), 1, body.size);
+    let (width, size) = frame(node, 1, body.size)?;
     Ok(Sized {
         term: Term::Else {
             width,
@@ -430,8 +431,8 @@ fn operands(
         return acquire_operands(context, depth, node);
     }
     let mut list = terms(context, depth, list_of(&node.arguments))?;
-    // A last target may be left out.
-    if list.terms.len() + 1 == usize::from(op.operands()) {
+    // The last target may be left out.
+    if targets(op) > 0 && list.terms.len() + 1 == usize::from(op.operands()) {
         list.add(number(0, 0))?;
     }
     Ok(list)
@@ -543,7 +544,7 @@ fn term(context: &Context, depth: usize, node: &Node<'_>) -> Result<Sized, AslEr
         return Err(fault(node.at, Why::TooDeep));
     };
     if !node.has_known_note() {
-        return Err(fault(node.at, Why::Note));
+        return Err(fault(node.note_at(), Why::Note));
     }
     let alloc = context.alloc;
     if let Some(term) = constant(node) {
@@ -571,19 +572,30 @@ fn terms(context: &Context, depth: usize, nodes: &[Node<'_>]) -> Result<SizedLis
 
 // ---- statements
 
-// External statements of one block, and the width of its PkgLength if it is stated.
+// External statements of one block, and the width of its PkgLength if it is stated at a place.
 #[derive(Drop)]
 struct Externals {
     list: SizedList,
+    at: usize,
     length: Option<u8>,
 }
 
 impl Externals {
     // A block without statements.
-    fn new(alloc: Global, length: Option<u8>) -> Externals {
+    fn new(alloc: Global) -> Externals {
         Externals {
             list: SizedList::new(alloc),
-            length,
+            at: 0,
+            length: None,
+        }
+    }
+
+    // A block that begins with the statement of this node.
+    fn at(alloc: Global, node: &Node<'_>) -> Externals {
+        Externals {
+            list: SizedList::new(alloc),
+            at: node.start(),
+            length: node.length(),
         }
     }
 }
@@ -594,7 +606,7 @@ fn flush(alloc: Global, block: Externals, list: &mut SizedList) -> Result<(), As
     if externals.terms.is_empty() {
         return Ok(());
     }
-    let (width, size) = frame(block.length, 1, externals.size.saturating_add(1));
+    let (width, size) = frame_at(block.at, block.length, 1, externals.size.saturating_add(1))?;
     let zero = Term::Number { value: 0, width: 0 };
     list.add(Sized {
         term: Term::If {
@@ -615,23 +627,25 @@ pub fn statements(
 ) -> Result<SizedList, AslError> {
     let alloc = context.alloc;
     let mut list = SizedList::new(alloc);
-    let mut externals = Externals::new(alloc, None);
+    let mut externals = Externals::new(alloc);
     'nodes: for node in nodes {
         if node.is_for_compilers() {
             continue;
         }
         let sized = term(context, depth, node)?;
         let in_block = matches!(node.word, b"External") && !node.stands_alone();
+        if !in_block {
+            let block = std::mem::replace(&mut externals, Externals::new(alloc));
+            flush(alloc, block, &mut list)?;
+            list.add(sized)?;
+            continue;
+        }
         // The notes on a block stand before its first statement.
-        if !in_block || node.length().is_some() || node.begins_block() {
-            let block = std::mem::replace(&mut externals, Externals::new(alloc, node.length()));
+        if node.length().is_some() || node.begins_block() {
+            let block = std::mem::replace(&mut externals, Externals::at(alloc, node));
             flush(alloc, block, &mut list)?;
         }
-        if in_block {
-            externals.list.add(sized)?;
-        } else {
-            list.add(sized)?;
-        }
+        externals.list.add(sized)?;
     }
     flush(alloc, externals, &mut list)?;
     Ok(list)

@@ -3,4 +3,4 @@ use Rattle.acpi_compile.specs.Squeeze.{squeezed_from, squeezed}
 use Rattle.acpi_compile.proofs.squeeze.squeezed.Given as goal
 
 abbrev pub invariant-characters : goal.invariant-characters
-invariant-characters l = l.kept.items ++ squeezed_from l.state (drop l.c-index l.text) ≡ squeezed l.text
+invariant-characters l = l.kept.items ++ squeezed_from l.state (drop l.c-index l.unmarked) ≡ squeezed l.text
