@@ -4,20 +4,21 @@ use Rattle.std.specs.Prelude.{sum, max, slice_index, nat_lt, Option, Some, None}
 use Rattle.std.proofs.lemmas.List.{take_all, take_at, drop_at, drop-take, length-take-le, take-append-drop}
 use Rattle.std.proofs.lemmas.Slice.{drop-append-drop}
 use Rattle.std.proofs.lemmas.Bool.Decides.{nat_tests}
-use Rattle.acpi_dump.specs.Dump.{is_dump}
 use Rattle.acpi_forms.specs.Kind.{kind_of}
 use Rattle.acpi_base.specs.Bytes.{le, carried, put, complement, field_at}
 use Rattle.acpi_base.specs.Table.{IsTrueTable}
 use Rattle.acpi_base.proofs.Bytes.{carried_le, length_le}
 use Rattle.acpi_base.proofs.Puts.{length-put, put-append, sum-put, take-put}
 use Rattle.acpitool_program.specs.Text.{IsKind}
-use Rattle.acpitool_program.specs.Repair.{unfit_of, unfit_as, is_plain_text, is_signed, seals_as, least, with_length, with_sum, set_seal, set_seals, needs, need, is_short_pointer}
+use Rattle.acpitool_program.specs.Repair.{unfit_of, unfit_by, is_signed, seals_as, least, with_length, with_sum, set_seal, set_seals, needs, need, is_short_pointer}
 use Rattle.acpitool_program.specs.Check.{IsPointer, IsControl, IsCoherent, IsPerformance}
 use Rattle.acpi_make.specs.declared.file_kind.FileKind.{FileKind}
 use Rattle.acpi_make.specs.declared.file_kind.FileKind.TheVariants.{Rsdp, Facs, Cdat, S3pt, Table}
+use Rattle.acpitool_program.specs.Another.{another_of}
+use Rattle.acpitool_program.specs.declared.another.Another.{Another}
 use Rattle.acpitool_program.specs.declared.repair.Seal.{Seal}
 use Rattle.acpitool_program.specs.declared.repair.Unfit.{Unfit}
-use Rattle.acpitool_program.specs.declared.repair.Unfit.TheVariants.{Dump, Short, Long, Text, NotSigned}
+use Rattle.acpitool_program.specs.declared.repair.Unfit.TheVariants.{Short, Long, NotSigned}
 use Rattle.acpitool_program.specs.declared.repair.Seal.TheVariants.{Length, Checksum, FrontChecksum}
 
 -- ---- bytes that were written
@@ -231,11 +232,11 @@ fit_by n m u v rest false false is_few is_many e = (grind (arith, nat_tests, is_
 
 -- they are enough, and not more than a length can say
 pub fits : (x : List ℕ) → unfit_of x ≡ None → (least (kind_of x) x ≤ length x) × (length x < 2 ^ 32)
-fits x is = by (is_dump x) is
+fits x is = by (another_of x) is
   where
-    by : (dump : Bool) → cond dump (Some Dump) (unfit_as (kind_of x) x) ≡ None → (least (kind_of x) x ≤ length x) × (length x < 2 ^ 32)
-    by true e = absurd (cc)
-    by false e =
+    by : (another : Option Another) → unfit_by another (kind_of x) x ≡ None → (least (kind_of x) x ≤ length x) × (length x < 2 ^ 32)
+    by (Some another) e = absurd (cc)
+    by None e =
         fit_by (length x) (least (kind_of x) x) (Short (least (kind_of x) x)) Long
-        (cond (is_plain_text x) (Some Text) (cond (is_signed (kind_of x) x) None (Some NotSigned)))
+        (cond (is_signed (kind_of x) x) None (Some NotSigned))
         (nat_lt (length x) (least (kind_of x) x)) (nat_lt 0xffffffff (length x)) refl refl e

@@ -1,5 +1,5 @@
 -- Memory is an error of any bytes.
-use Rattle.std.proofs.Common.{◌≡◌, ◌∙◌, List, ℕ, refl, sym}
+use Rattle.std.proofs.Common.{◌≡◌, ◌∙◌, List, ℕ, refl, sym, inr}
 use Rattle.acpi_forms.specs.Kind.{kind_of}
 use Rattle.acpi_forms.specs.Words.{words_by}
 use Rattle.acpi_make.specs.declared.file_kind.FileKind.{FileKind}
@@ -19,4 +19,8 @@ same_words Table = refl
 
 pub memory_is_fault : (fault : Fault) → IsFaultOf Table Memory fault → (bytes : List ℕ) → IsTextFault bytes fault
 memory_is_fault fault is bytes =
-    record { error = Memory; says = (is.0, is.1 ∙ sym (same_words (kind_of bytes))); cause = λ other. absurd (other refl) }
+    record {
+      error = Memory;
+      says = inr (record { none = λ other. absurd (other refl); says = (is.0, is.1 ∙ sym (same_words (kind_of bytes))) });
+      cause = λ other. absurd (other refl);
+    }

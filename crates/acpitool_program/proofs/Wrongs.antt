@@ -2,7 +2,7 @@
 use Rattle.std.proofs.Common.{◌≡◌, ◌≢◌, ◌⊎◌, ◌≤◌, ℕ, List, [], ◌∷◌, length, Option, Some, None, refl, map, string_bytes, ap, sym, subst, ◌∙◌, inl, inr, arith, codes}
 use Rattle.acpitool_program.proofs.Rests.{same_rest, no_pointer, no_address}
 use Rattle.acpitool_program.proofs.Verbs.{heads, tails, same_verb, no_version, no_help}
-use Rattle.acpitool_program.specs.Command.{word_of, first_option, after_option, files_after, unforced, IsAddress, AreImage, AreUnpack, AreLay, IsRest, IsHelp, BeginsWithHelp, Asks, IsNoCommand}
+use Rattle.acpitool_program.specs.Command.{word_of, first_option, after_option, files_in, files_after, unforced, IsAddress, AreImage, AreUnpack, AreLay, IsRest, IsHelp, BeginsWithHelp, Asks, IsNoCommand}
 use Rattle.acpitool_program.specs.Command.{IsAfterBase, IsAfterFile, IsAfterUnpacked, IsNoUnpackBase, IsAfterLaid, HasLeft, IsNoLayBase, IsNoPointer, IsWrong}
 use Rattle.acpitool_program.specs.Laws.{WrongAskForNothing}
 use Rattle.acpitool_program.specs.declared.command.Command.{Command}
@@ -11,7 +11,7 @@ use Rattle.acpitool_program.specs.declared.command.Command.TheVariants.{Disassem
 use Rattle.acpitool_program.specs.declared.command.Verb.{Verb}
 use Rattle.acpitool_program.specs.declared.command.Verb.TheVariants as verbs
 use Rattle.acpitool_program.specs.declared.command.Wrong.{Wrong}
-use Rattle.acpitool_program.specs.declared.command.Wrong.TheVariants.{NoCommand, Unknown, Placed, NoFile, NoFileToCheck, NoImage, NoText}
+use Rattle.acpitool_program.specs.declared.command.Wrong.TheVariants.{NoCommand, Unknown, Misplaced, NoFile, NoFileToCheck, NoImage, NoText}
 use Rattle.acpitool_program.specs.declared.command.Wrong.TheVariants.{NoTable, Base, Number, Twice, NoSignature, Signature, NoBlock}
 use Rattle.acpitool_program.specs.declared.command.Wrong.TheVariants.{NoPacked, NoFolder, NoTables, NoArchive}
 use Rattle.acpitool_program.specs.declared.command.Wrong.TheVariants.{NoImageFile, NoBase, NoPointer, NoDamaged, NoFirst, NoSecond, NoDrawing}
@@ -25,8 +25,8 @@ IsTaken verbs.Check more = 1 ≤ length (after_option verbs.Check more)
 IsTaken verbs.Image more = (file : List ℕ) × (base : ℕ) × AreImage (after_option verbs.Image more) file base
 IsTaken verbs.Make more = (text : List ℕ) × (file : List ℕ) × (unforced more ≡ text ∷ file ∷ [])
 IsTaken verbs.Template more = (signature : List ℕ) × (more ≡ signature ∷ []) × (length signature ≡ 4)
-IsTaken verbs.Disassemble more = (file : List ℕ) × (numbers : List (List ℕ)) × (more ≡ file ∷ numbers)
-IsTaken verbs.Names more = (file : List ℕ) × (numbers : List (List ℕ)) × (after_option verbs.Names more ≡ file ∷ numbers)
+IsTaken verbs.Disassemble more = 1 ≤ files_in more
+IsTaken verbs.Names more = 1 ≤ files_in (after_option verbs.Names more)
 IsTaken verbs.Unpack more = (file : List ℕ) × (folder : List ℕ) × (base : ℕ) × AreUnpack more file folder base
 IsTaken verbs.Cpio more = (folder : List ℕ) × (file : List ℕ) × (more ≡ folder ∷ file ∷ [])
 IsTaken verbs.Lay more =
@@ -92,9 +92,9 @@ asked words (Image json file base) all =
 asked words (Template signature) all =
     inr (inr (record { verb = verbs.Template; more = all.0; is = all.1.0; are = inr (all.1.1, (signature.now, all.2, all.3)) }))
 asked words (Disassemble file numbers) all =
-    inr (inr (record { verb = verbs.Disassemble; more = all.0; is = all.1.0; are = inr (all.1.1, (file.now, map (λ word. string_bytes word) numbers.now, all.2)) }))
+    inr (inr (record { verb = verbs.Disassemble; more = all.0; is = all.1.0; are = inr (all.1.1, all.3) }))
 asked words (Names json file numbers) all =
-    inr (inr (record { verb = verbs.Names; more = all.0; is = all.1.0; are = inr (all.1.1, (file.now, map (λ word. string_bytes word) numbers.now, all.3)) }))
+    inr (inr (record { verb = verbs.Names; more = all.0; is = all.1.0; are = inr (all.1.1, all.4) }))
 asked words (Unpack file folder base) all =
     inr (inr (record { verb = verbs.Unpack; more = all.0; is = all.1.0; are = inr (all.1.1, (file.now, folder.now, base, all.2)) }))
 asked words (Cpio folder file) all =
@@ -287,7 +287,7 @@ wronged words (Unknown word) (inr (inr (inr (inr (inr (inr (inr (inr (inr (inr (
   is = third.after.0;
   are = inr (third.after.1, λ taken. cc (third.is, taken.2));
 }))
-wronged words (Placed word) option =
+wronged words (Misplaced word) option =
     inr (inr (record { verb = option.verb; more = option.more; is = option.is; are = inl (word.now, option.first, option.no_help, option.no_short_help) }))
 wronged words NoFile all = inr (inr (record {
   verb = verbs.Show;
@@ -309,13 +309,17 @@ wronged words NoImage all = inr (inr (record {
 }))
 wronged words NoSignature is =
     inr (inr (record { verb = verbs.Template; more = []; is = is; are = inr (refl, λ taken. cc (taken.1)) }))
-wronged words NoBlock (inl is) =
-    inr (inr (record { verb = verbs.Disassemble; more = []; is = is; are = inr (refl, λ taken. cc (taken.2)) }))
+wronged words NoBlock (inl all) = inr (inr (record {
+  verb = verbs.Disassemble;
+  more = all.0;
+  is = all.1.0;
+  are = inr (all.1.1, λ taken. let none = all.2 in omega (arith, none, taken));
+}))
 wronged words NoBlock (inr all) = inr (inr (record {
   verb = verbs.Names;
   more = all.0;
   is = all.1.0;
-  are = inr (all.1.1, λ taken. let none = all.2 in let some = ap length taken.2 in omega (arith, none, some));
+  are = inr (all.1.1, λ taken. let none = all.2 in omega (arith, none, taken));
 }))
 wronged words (Signature word) all = inr (inr (record {
   verb = verbs.Template;

@@ -18,7 +18,7 @@ use Rattle.acpitool_program.specs.declared.command.Style.TheVariants.{Usual, Bar
 use Rattle.acpitool_program.specs.declared.command.Verb.{Verb}
 use Rattle.acpitool_program.specs.declared.command.Verb.TheVariants as verbs
 use Rattle.acpitool_program.specs.declared.command.Wrong.{Wrong}
-use Rattle.acpitool_program.specs.declared.command.Wrong.TheVariants.{NoCommand, Unknown, Placed, NoFile, NoFileToCheck}
+use Rattle.acpitool_program.specs.declared.command.Wrong.TheVariants.{NoCommand, Unknown, Misplaced, NoFile, NoFileToCheck}
 use Rattle.acpitool_program.specs.declared.command.Wrong.TheVariants.{NoImage, NoText, NoTable, Base, Number, Twice, NoSignature}
 use Rattle.acpitool_program.specs.declared.command.Wrong.TheVariants.{Signature, NoBlock}
 use Rattle.acpitool_program.specs.declared.command.Wrong.TheVariants.{NoPacked, NoFolder, NoTables, NoArchive}
@@ -168,9 +168,14 @@ IsMisstated words misstated.Memory = Unit {0}
 
 -- ---- an address
 
+-- a word without the `0x` or `0X` at its front
+abbrev pub without_prefix : List ℕ → List ℕ
+without_prefix word =
+    if starts_with nat_eq word (codes "0x") || starts_with nat_eq word (codes "0X") then drop 2 word else word
+
 -- the digits of an address: all of the word, or those after `0x`
 abbrev pub address_digits : List ℕ → List ℕ
-address_digits word = without_leading_plus (if starts_with nat_eq word (codes "0x") then drop 2 word else word)
+address_digits word = without_leading_plus (without_prefix word)
 
 -- the word is this address in hexadecimal
 pub record IsAddress (word : List ℕ) (address : ℕ) : Type 0 where
@@ -233,11 +238,13 @@ Asks words (Template signature) =
 Asks words (Disassemble file numbers) =
     (more : List (List ℕ)) × AreAfter verbs.Disassemble words more
     × (more ≡ file.now ∷ map (λ word. string_bytes word) numbers.now)
+    × (1 ≤ files_in more)
 Asks words (Names json file numbers) =
     (more : List (List ℕ))
     × AreAfter verbs.Names words more
     × (json ≡ begins_with (codes "--json") more)
     × (after_option verbs.Names more ≡ file.now ∷ map (λ word. string_bytes word) numbers.now)
+    × (1 ≤ files_in (after_option verbs.Names more))
 Asks words (Unpack file folder base) =
     (more : List (List ℕ)) × AreAfter verbs.Unpack words more × AreUnpack more file.now folder.now base
 Asks words (Cpio folder file) = (more : List (List ℕ)) × AreAfter verbs.Cpio words more × (more ≡ folder.now ∷ file.now ∷ [])
@@ -438,7 +445,7 @@ IsWrong words (Unknown word) =
     ⊎ IsAfterUnpacked words word.now ⊎ IsAfterArchive words word.now ⊎ IsAfterLaid words word.now
     ⊎ IsAfterCompared words word.now ⊎ IsAfterLoaded words word.now ⊎ IsAfterSignature words word.now
     ⊎ IsAfterDrawn words word.now ⊎ IsAfterRepaired words word.now
-IsWrong words (Placed word) = IsNoOption true words word.now
+IsWrong words (Misplaced word) = IsNoOption true words word.now
 IsWrong words NoFile = (more : List (List ℕ)) × AreAfter verbs.Show words more × (files_after more ≡ 0)
 IsWrong words NoFileToCheck =
     (more : List (List ℕ)) × AreAfter verbs.Check words more × (length (after_option verbs.Check more) ≡ 0)
@@ -446,8 +453,8 @@ IsWrong words NoImage =
     (more : List (List ℕ)) × AreAfter verbs.Image words more × (length (after_option verbs.Image more) ≡ 0)
 IsWrong words NoSignature = words ≡ codes "template" ∷ []
 IsWrong words NoBlock =
-    (words ≡ codes "disassemble" ∷ [])
-    ⊎ ((more : List (List ℕ)) × AreAfter verbs.Names words more × (length (after_option verbs.Names more) ≡ 0))
+    ((more : List (List ℕ)) × AreAfter verbs.Disassemble words more × (files_in more ≡ 0))
+    ⊎ ((more : List (List ℕ)) × AreAfter verbs.Names words more × (files_in (after_option verbs.Names more) ≡ 0))
 IsWrong words (Signature word) =
     (more : List (List ℕ)) × AreAfter verbs.Template words more × (more ≡ word.now ∷ []) × (length word.now ≢ 4)
 IsWrong words NoText = (more : List (List ℕ)) × AreAfter verbs.Make words more × (unforced more ≡ [])

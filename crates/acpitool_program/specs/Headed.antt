@@ -6,7 +6,7 @@ use Rattle.acpi_make.specs.declared.file_kind.FileKind.{FileKind}
 use Rattle.acpi_make.specs.declared.file_kind.FileKind.TheVariants.{Rsdp, Facs, Cdat, S3pt, Table}
 use Rattle.acpi_term.specs.declared.read_error.ReadError.{ReadError}
 use Rattle.acpi_term.specs.declared.read_error.ReadError.TheVariants.{Memory}
-use Rattle.acpitool_program.specs.Fault.{Says, IsFaultOf}
+use Rattle.acpitool_program.specs.Fault.{Says, IsFaultIn}
 use Rattle.acpitool_program.specs.declared.fault.Fault.{Fault}
 
 -- what is said of bytes of a kind that has no standard header (ACPI 6.5, 5.2.6)
@@ -32,7 +32,7 @@ pub record IsHeadless (bytes : List ℕ) (fault : Fault) : Type 0 where
 pub record IsMisheaded (bytes : List ℕ) (fault : Fault) : Type 0 where
   pub kind : headless (kind_of bytes) ≡ None
   pub error : ReadError
-  pub says : IsFaultOf Table error fault
+  pub says : IsFaultIn Table error bytes fault
   pub cause : error ≢ Memory → ¬ IsTrueTable bytes
 
 -- why bytes are no table with the standard header

@@ -1,4 +1,5 @@
 pub mod Check
+pub mod Another
 pub mod Fault
 pub mod Headed
 pub mod Offsets

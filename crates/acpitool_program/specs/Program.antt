@@ -37,7 +37,7 @@ use Rattle.acpitool_program.specs.declared.command.Style.{Style}
 use Rattle.acpi_asl.specs.declared.block.BlockText.{BlockText}
 use Rattle.acpi_asl.specs.declared.block.BlockText.TheVariants as blocks
 use Rattle.acpitool_program.specs.declared.command.Wrong.{Wrong}
-use Rattle.acpitool_program.specs.declared.command.Wrong.TheVariants.{NoCommand, Unknown, Placed, NoFile, NoFileToCheck}
+use Rattle.acpitool_program.specs.declared.command.Wrong.TheVariants.{NoCommand, Unknown, Misplaced, NoFile, NoFileToCheck}
 use Rattle.acpitool_program.specs.declared.command.Wrong.TheVariants.{NoImage, NoText, NoTable, Base, Number, Twice, NoSignature}
 use Rattle.acpitool_program.specs.declared.command.Wrong.TheVariants.{Signature, NoBlock}
 use Rattle.acpitool_program.specs.declared.command.Wrong.TheVariants.{NoPacked, NoFolder, NoTables, NoArchive}
@@ -64,7 +64,7 @@ version = codes "acpitool 0.1.0\n"
 abbrev pub wrong_line : Wrong → List ℕ
 wrong_line NoCommand = codes "acpitool: no command\n"
 wrong_line (Unknown word) = codes "acpitool: unknown word " ++ word.now ++ codes "\n"
-wrong_line (Placed word) = codes "acpitool: at most one option, right after the command: " ++ word.now ++ codes "\n"
+wrong_line (Misplaced word) = codes "acpitool: at most one option, right after the command: " ++ word.now ++ codes "\n"
 wrong_line NoFile = codes "acpitool: no file to show\n"
 wrong_line NoFileToCheck = codes "acpitool: no file to check\n"
 wrong_line NoImage = codes "acpitool: no file with an image\n"

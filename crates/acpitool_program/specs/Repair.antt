@@ -5,15 +5,15 @@ use Rattle.std.specs.Char.{is_ascii_uppercase, is_ascii_digit}
 use Rattle.std.specs.List.{starts_with}
 use Rattle.std.specs.Fmt.{decimal}
 use Rattle.acpi_base.specs.Bytes.{le, put, complement}
-use Rattle.acpi_dump.specs.Dump.{is_dump}
 use Rattle.acpi_forms.specs.Kind.{kind_of}
 use Rattle.acpi_make.specs.declared.file_kind.FileKind.{FileKind}
 use Rattle.acpi_make.specs.declared.file_kind.FileKind.TheVariants.{Rsdp, Facs, Cdat, S3pt, Table}
-use Rattle.acpi_text.specs.Label.{prints}
+use Rattle.acpitool_program.specs.Another.{another_of, another_words}
+use Rattle.acpitool_program.specs.declared.another.Another.{Another}
 use Rattle.acpitool_program.specs.declared.repair.Seal.{Seal}
 use Rattle.acpitool_program.specs.declared.repair.Seal.TheVariants.{Length, Checksum, FrontChecksum}
 use Rattle.acpitool_program.specs.declared.repair.Unfit.{Unfit}
-use Rattle.acpitool_program.specs.declared.repair.Unfit.TheVariants.{Dump, Short, Long, Text, NotSigned}
+use Rattle.acpitool_program.specs.declared.repair.Unfit.TheVariants.{NoTable, Short, Long, NotSigned}
 
 -- ---- the fields of each kind
 
@@ -68,32 +68,25 @@ is_signed Facs bytes = true
 is_signed S3pt bytes = true
 is_signed Cdat bytes = true
 
--- whether a byte is a character that prints, a tab or an end of a line
-abbrev pub is_text_byte : ℕ → Bool
-is_text_byte c = prints c || c == 9 || c == 10 || c == 13
-
--- Whether all bytes are. Those of a table of less than 0x09090909 bytes aren't: the last byte of its length is below 9.
-abbrev pub is_plain_text : List ℕ → Bool
-is_plain_text [] = true
-is_plain_text (c ∷ bytes) = is_text_byte c && is_plain_text bytes
-
--- bytes of a kind are too few, or more than a length can say, or are a text, or have no signature
+-- bytes of a kind are too few, or more than a length can say, or have no signature
 abbrev pub unfit_as : FileKind → List ℕ → Option Unfit
 unfit_as kind bytes =
     if nat_lt (length bytes) (least kind bytes) then Some (Short (least kind bytes))
     else (if nat_lt 0xffffffff (length bytes) then Some Long
-    else (if is_plain_text bytes then Some Text
     else (if is_signed kind bytes then None
-    else Some NotSigned)))
+    else Some NotSigned))
+
+abbrev pub unfit_by : Option Another → FileKind → List ℕ → Option Unfit
+unfit_by (Some another) kind bytes = Some (NoTable another)
+unfit_by None kind bytes = unfit_as kind bytes
 
 abbrev pub unfit_of : List ℕ → Option Unfit
-unfit_of bytes = if is_dump bytes then Some Dump else unfit_as (kind_of bytes) bytes
+unfit_of bytes = unfit_by (another_of bytes) (kind_of bytes) bytes
 
 abbrev pub why_unfit : Unfit → List ℕ
-why_unfit Dump = codes "a dump of tables, which unpack writes one by one"
+why_unfit (NoTable another) = another_words another
 why_unfit (Short least) = codes "fewer than " ++ decimal least ++ codes " bytes"
 why_unfit Long = codes "4294967296 bytes or more"
-why_unfit Text = codes "a text, not a table"
 why_unfit NotSigned = codes "the first four bytes are no signature of a table"
 
 -- ---- setting them

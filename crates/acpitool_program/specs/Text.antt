@@ -8,7 +8,7 @@ use Rattle.acpi_make.specs.declared.file_kind.FileKind.TheVariants.{Rsdp, Facs, 
 use Rattle.acpi_term.specs.declared.read_error.ReadError.{ReadError}
 use Rattle.acpi_term.specs.declared.read_error.ReadError.TheVariants.{Memory}
 use Rattle.acpitool_program.specs.Check.{IsPointer, IsControl, IsCoherent, IsPerformance}
-use Rattle.acpitool_program.specs.Fault.{IsFaultOf}
+use Rattle.acpitool_program.specs.Fault.{IsFaultIn}
 use Rattle.acpitool_program.specs.Offsets.{without_offsets}
 use Rattle.acpitool_program.specs.declared.fault.Fault.{Fault}
 
@@ -33,5 +33,5 @@ IsTextAs true bytes text = (whole : List ℕ) × IsText bytes whole × (text ≡
 -- bytes aren't what their signature says, and a fault says why, or memory ran out
 pub record IsTextFault (bytes : List ℕ) (fault : Fault) : Type 0 where
   pub error : ReadError
-  pub says : IsFaultOf (kind_of bytes) error fault
+  pub says : IsFaultIn (kind_of bytes) error bytes fault
   pub cause : error ≢ Memory → ¬ IsKind (kind_of bytes) bytes

@@ -9,7 +9,7 @@ ghost use Rattle.acpitool_program.specs.Command.{is_option, is_force, leads, beg
 ghost use Rattle.acpitool_program.specs.Command.{after_option, takes, option_in, AreAfter, IsRest};
 ghost use Rattle.acpitool_program.specs.Command.{first_option, forces, unforced, has, is_number};
 ghost use Rattle.acpitool_program.specs.Command.{files_in, first_unstated, IsMisstated};
-ghost use Rattle.acpitool_program.specs.Command.{word_of, IsAddress, Asks, IsWrong};
+ghost use Rattle.acpitool_program.specs.Command.{word_of, without_prefix, IsAddress, Asks, IsWrong};
 ghost use Rattle.acpitool_program.specs.declared.command.Verb.TheVariants as verbs;
 
 use acpi_input::stated::{Unstated, arities, stated};
@@ -104,7 +104,7 @@ pub enum Wrong<'a> {
     /// The word isn't a command or an option.
     Unknown(&'a str),
     /// The word is an option that doesn't stand right after its command, or not alone.
-    Placed(&'a str),
+    Misplaced(&'a str),
     /// `show` has no file.
     NoFile,
     /// `check` has no file.
@@ -405,11 +405,14 @@ pub fn numbers(alloc: Global, words: &[String]) -> Result<Arities, Misstated<'_>
     }
 }
 
-// Returns a word without the `0x` at its front.
+// Returns a word without the `0x` or `0X` at its front.
 fn without_prefix(word: &str) -> &str
-    ensures { result.now ≡ (if starts_with nat_eq word.now (codes "0x") then drop 2 word.now else word.now) }
+    ensures { result.now ≡ without_prefix word.now }
 {
-    match word.strip_prefix("0x") {
+    if let Some(digits) = word.strip_prefix("0x") {
+        return digits;
+    }
+    match word.strip_prefix("0X") {
         Some(digits) => digits,
         None => word,
     }
@@ -491,8 +494,10 @@ fn disassemble(words: &[String]) -> Result<Command<'_>, Wrong<'_>>
         → MatchResult result (Asks all) (IsWrong all) }
 {
     match words {
-        [] => Err(Wrong::NoBlock),
-        [file, numbers @ ..] => Ok(Command::Disassemble(file.as_str(), numbers)),
+        [file, others @ ..] if files_in(words) > 0 => {
+            Ok(Command::Disassemble(file.as_str(), others))
+        }
+        _ => Err(Wrong::NoBlock),
     }
 }
 
@@ -503,9 +508,12 @@ fn names(words: &[String]) -> Result<Command<'_>, Wrong<'_>>
         → MatchResult result (Asks all) (IsWrong all) }
 {
     let json = begins_with("--json", words);
-    match after_option(Verb::Names, words) {
-        [] => Err(Wrong::NoBlock),
-        [file, numbers @ ..] => Ok(Command::Names(json, file.as_str(), numbers)),
+    let rest = after_option(Verb::Names, words);
+    match rest {
+        [file, others @ ..] if files_in(rest) > 0 => {
+            Ok(Command::Names(json, file.as_str(), others))
+        }
+        _ => Err(Wrong::NoBlock),
     }
 }
 
@@ -659,7 +667,7 @@ fn asked(verb: Verb, words: &[String]) -> Result<Command<'_>, Wrong<'_>>
     match first_option(verb, words) {
         Some("--help") => Ok(Command::Help),
         Some("-h") => Ok(Command::Help),
-        Some(word) if leads(verb, word) => Err(Wrong::Placed(word)),
+        Some(word) if leads(verb, word) => Err(Wrong::Misplaced(word)),
         Some(word) => Err(Wrong::Unknown(word)),
         None => match verb {
             Verb::Show => show(words),

@@ -13,6 +13,7 @@ use crate::fault::Fault;
 use crate::fields::fields_in;
 use crate::files::read_word;
 use crate::outcome::tell_unread;
+use crate::structures::from_offset;
 use crate::text::check_kind;
 use acpi_forms::kind::title_of;
 use acpi_read::report::push_shown;
@@ -46,17 +47,6 @@ fn front(count: usize, bytes: &[u8]) -> &[u8]
     }
 }
 
-// Returns the bytes after the first ones.
-fn after(count: usize, bytes: &[u8]) -> &[u8]
-    ensures { result.now ≡ drop count bytes.now }
-{
-    if count < bytes.len() {
-        &bytes[count..]
-    } else {
-        &[]
-    }
-}
-
 // Returns the bytes of a table that none of its fields has.
 fn nameless(alloc: Global, fields: &[Field<'_>], table: &[u8]) -> Result<Vec<u8>, AllocError>
     ensures { IfOk result (λ bytes. bytes.items ≡ nameless (map seen fields.now) table.now) }
@@ -67,7 +57,7 @@ fn nameless(alloc: Global, fields: &[Field<'_>], table: &[u8]) -> Result<Vec<u8>
         let at = table.len().saturating_sub(rest.len());
         let before = field.offset.saturating_sub(at);
         bytes.extend_from_slice(front(before, rest))?;
-        rest = after(field.bytes.len(), after(before, rest));
+        rest = from_offset(field.bytes.len(), from_offset(before, rest));
     }
     bytes.extend_from_slice(rest)?;
     Ok(bytes)

@@ -239,7 +239,8 @@ fn apart(words: &[String]) -> (&[String], &[String])
 }
 
 /// Prints the text of the definition block in a file, or on standard input. The words are further files, whose methods the block
-/// may call, up to the first word that states a number of arguments.
+/// may call, up to the first word that states a number of arguments. The status is 0, or 1 if there is no definition block or not
+/// all of its terms can be read, or 2 if a file can't be read or the words state no numbers.
 pub fn disassemble<R: Files + Input, O: Write, E: Write>(
     rt: &R,
     alloc: Global,

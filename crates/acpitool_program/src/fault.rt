@@ -2,9 +2,10 @@
 
 ghost use Rattle.std.specs.Prelude.{◌≡◌, ℕ, List, Some, ◌+◌, ◌<◌, ◌^◌, IfSome};
 ghost use Rattle.acpi_term.specs.ReadError.{offset_of};
-ghost use Rattle.acpitool_program.specs.Fault.{line_of, IsFaultOf, IsFaultAfter};
+ghost use Rattle.acpitool_program.specs.Fault.{line_of, IsFaultOf, IsFaultIn, IsFaultAfter};
 ghost use Rattle.acpitool_program.specs.Text.{IsTextFault};
 
+use crate::another::another_of;
 use acpi_forms::words::{words, words_by};
 use acpi_make::file_kind::FileKind;
 use acpi_term::read_error::ReadError;
@@ -28,6 +29,19 @@ impl Fault {
         Fault {
             place: error.offset(),
             words: words_by(kind, error),
+        }
+    }
+
+    /// The fault of an error in the bytes of a file, which are what their signature says, or no table.
+    pub fn in_file(kind: FileKind, error: ReadError, bytes: &[u8]) -> Fault
+        ensures { IsFaultIn kind error bytes.now result }
+    {
+        match another_of(bytes) {
+            Some(another) => Fault {
+                place: None,
+                words: another.words(),
+            },
+            None => Fault::of(kind, error),
         }
     }
 

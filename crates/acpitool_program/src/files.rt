@@ -22,12 +22,12 @@ fn read_all<I: Read + Drop>(alloc: Global, input: I) -> io::Result<Vec<u8>>
     Ok(bytes)
 }
 
-/// Returns the bytes of a file.
+/// Returns the bytes of a file, or the error of the system.
 pub fn read_file<R: Files>(rt: &R, alloc: Global, path: &str) -> io::Result<Vec<u8>> {
     read_all(alloc, fs::open(rt, path)?)
 }
 
-/// Returns the bytes of a file, or those of standard input if the word is `-`.
+/// Returns the bytes of a file, or those of standard input if the word is `-`, or the error of the system.
 pub fn read_word<R: Files + Input>(rt: &R, alloc: Global, word: &str) -> io::Result<Vec<u8>> {
     match word {
         "-" => read_all(alloc, rt.reader()),

@@ -36,6 +36,6 @@ pub fn headed(bytes: &[u8]) -> Result<Table<'_>, Fault>
     }
     match Table::check(bytes) {
         Ok(table) => Ok(table),
-        Err(error) => Err(Fault::of(FileKind::Table, error)),
+        Err(error) => Err(Fault::in_file(FileKind::Table, error, bytes)),
     }
 }

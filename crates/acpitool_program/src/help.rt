@@ -146,7 +146,7 @@ fn print_wrong<E: Write>(wrong: &Wrong<'_>, err: &mut E) -> io::Result<()>
 {
     match wrong {
         Wrong::NoCommand => err.write_all(b"acpitool: no command\n"),
-        Wrong::Placed(word) => {
+        Wrong::Misplaced(word) => {
             writeln!(
                 err,
                 "acpitool: at most one option, right after the command: {word}"

@@ -1,6 +1,7 @@
 //! The program `acpitool` without its `main`.
 #![tactic(auto)]
 
+mod another;
 pub mod apart;
 pub mod archiving;
 pub mod check;

@@ -52,7 +52,8 @@ fn list_tables<O: Write, E: Write>(
     }
 }
 
-/// Lists the tables of the image in a file, or on standard input if the word is `-`, as an array of JSON or a line for each.
+/// Lists the tables of the image in a file, or on standard input if the word is `-`, as an array of JSON or a line for each. The
+/// status is 0, or 1 if there is no image, or 2 if the file can't be read.
 pub fn list_file<R: Files + Input, O: Write, E: Write>(
     rt: &R,
     alloc: Global,

@@ -184,7 +184,8 @@ pub fn save<R: Files, E: Write>(
     tell_written(alloc, file, write_file(rt, alloc, file, bytes), err)
 }
 
-/// Writes a table to standard output if the file is `-`, and otherwise to the file.
+/// Writes a table to standard output if the file is `-`, and otherwise to the file. Returns 0, or prints why the file can't be
+/// written, and returns 1.
 pub fn write_table<R: Files, O: Write, E: Write>(
     rt: &R,
     alloc: Global,
@@ -292,7 +293,8 @@ fn tell_same<E: Write>(name: &str, err: &mut E) -> io::Result<u8>
 }
 
 /// Makes the text in a file, or on standard input, into a table, and writes it to another file, or to standard output. A table
-/// whose numbers are wrong is only written by force. A table doesn't replace its text: two words for one file are refused.
+/// whose numbers are wrong is only written by force. A table doesn't replace its text: two words for one file are refused. The
+/// status is 0, or 1 if no table is written, or 2 if the text can't be read.
 pub fn make_file<R: Files + Input, O: Write, E: Write>(
     rt: &R,
     alloc: Global,

@@ -4,16 +4,14 @@ ghost use Rattle.std.specs.Prelude.{◌≡◌, ◌+◌, ◌<◌, ◌≤◌, ◌^
 ghost use Rattle.acpi_forms.specs.Kind.{kind_of};
 ghost use Rattle.acpitool_program.specs.Repair.{is_short_pointer, seals_as, least, with_length, with_sum, set_seal, set_seals};
 ghost use Rattle.acpitool_program.specs.Repair.{is_signature_character, begins_characters, begins_signature, is_signed};
-ghost use Rattle.acpitool_program.specs.Repair.{is_text_byte, is_plain_text};
 ghost use Rattle.acpitool_program.specs.Repair.{needs, need, unfit_of, unfit_as, why_unfit, repaired};
 ghost use Rattle.acpitool_program.specs.Text.{IsKind};
 
+use crate::another::{Another, another_of};
 use acpi_base::patch::write_at;
 use acpi_base::sum::Sum;
-use acpi_dump::dump::is_dump;
 use acpi_forms::kind::kind_of;
 use acpi_make::file_kind::FileKind;
-use acpi_text::space::prints;
 use std::alloc::{AllocError, Global};
 use std::fmt;
 
@@ -31,14 +29,12 @@ pub enum Seal {
 /// Why no length and no checksums make bytes a table. Its text is for a line after the name of the file.
 #[derive(Clone, Copy, Debug)]
 pub enum Unfit {
-    /// They are a dump of tables as text.
-    Dump,
+    /// They are no table.
+    NoTable(Another),
     /// They are fewer than this.
     Short(usize),
     /// They are 2^32 or more, which no length can say.
     Long,
-    /// They are a text.
-    Text,
     /// They begin with no signature.
     NotSigned,
 }
@@ -48,10 +44,9 @@ impl fmt::Display for Unfit {
 
     fn fmt<W: fmt::Write>(&self, f: &mut fmt::Formatter<W>) -> fmt::Result {
         match *self {
-            Unfit::Dump => write!(f, "a dump of tables, which unpack writes one by one"),
+            Unfit::NoTable(another) => write!(f, "{another}"),
             Unfit::Short(least) => write!(f, "fewer than {least} bytes"),
             Unfit::Long => write!(f, "4294967296 bytes or more"),
-            Unfit::Text => write!(f, "a text, not a table"),
             Unfit::NotSigned => write!(f, "the first four bytes are no signature of a table"),
         }
     }
@@ -126,25 +121,6 @@ fn is_signed(kind: FileKind, bytes: &[u8]) -> bool
     }
 }
 
-// Returns whether a byte is a character that prints, a tab or an end of a line.
-fn is_text_byte(byte: u8) -> bool
-    ensures { result ≡ is_text_byte byte }
-{
-    prints(byte) || byte == b'\t' || byte == b'\n' || byte == b'\r'
-}
-
-// Returns whether all bytes are.
-fn is_plain_text(bytes: &[u8]) -> bool
-    ensures { result ≡ is_plain_text bytes.now }
-{
-    'bytes: for byte in bytes {
-        if !is_text_byte(*byte) {
-            return false;
-        }
-    }
-    true
-}
-
 // Returns why no length and no checksums make bytes of a kind a table.
 fn unfit_as(kind: FileKind, bytes: &[u8]) -> Option<Unfit>
     ensures { result ≡ unfit_as kind bytes.now }
@@ -154,8 +130,6 @@ fn unfit_as(kind: FileKind, bytes: &[u8]) -> Option<Unfit>
         Some(Unfit::Short(least))
     } else if bytes.len() > 0xffff_ffff {
         Some(Unfit::Long)
-    } else if is_plain_text(bytes) {
-        Some(Unfit::Text)
     } else if !is_signed(kind, bytes) {
         Some(Unfit::NotSigned)
     } else {
@@ -167,10 +141,9 @@ fn unfit_as(kind: FileKind, bytes: &[u8]) -> Option<Unfit>
 fn unfit_of(bytes: &[u8]) -> Option<Unfit>
     ensures { result ≡ unfit_of bytes.now }
 {
-    if is_dump(bytes) {
-        Some(Unfit::Dump)
-    } else {
-        unfit_as(kind_of(bytes), bytes)
+    match another_of(bytes) {
+        Some(another) => Some(Unfit::NoTable(another)),
+        None => unfit_as(kind_of(bytes), bytes),
     }
 }
 

@@ -148,7 +148,8 @@ fn show_stated<R: Files + Input + AllocGlobal + Clone + Drop, O: Write, E: Write
 }
 
 /// Shows what files name, as the option of `show` says, if the other words state numbers of arguments. The tables of all files
-/// are gathered first, since definition blocks may name the objects of each other.
+/// are gathered first, since definition blocks may name the objects of each other. The status is 0, or 1 if something is wrong
+/// with a table, or 2 if a file can't be read or the words state no numbers.
 pub fn show_all<R: Files + Input + AllocGlobal + Clone + Drop, O: Write, E: Write>(
     rt: &R,
     alloc: Global,

@@ -52,7 +52,7 @@ fn broken_at(sizes: Sizes, start: usize, bytes: &[u8]) -> Option<usize>
 }
 
 // Returns the bytes from an offset on.
-fn from_offset(offset: usize, bytes: &[u8]) -> &[u8]
+pub(crate) fn from_offset(offset: usize, bytes: &[u8]) -> &[u8]
     ensures { result.now ≡ drop offset bytes.now }
 {
     if offset < bytes.len() {

@@ -21,7 +21,7 @@ pub fn check_kind(bytes: &[u8]) -> Result<(), Fault>
     let kind = kind_of(bytes);
     match check_as(kind, bytes) {
         Ok(()) => Ok(()),
-        Err(error) => Err(Fault::of(kind, error)),
+        Err(error) => Err(Fault::in_file(kind, error, bytes)),
     }
 }
 

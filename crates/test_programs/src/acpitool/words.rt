@@ -69,6 +69,14 @@ fn wrong_commands(rt: HostRuntime) -> Result<(), Fail> {
             (&["disassemble"], "no file with a definition block\n"),
             (&["names"], "no file with a definition block\n"),
             (&["names", "--json"], "no file with a definition block\n"),
+            (
+                &["disassemble", "FOO_=1", "a"],
+                "no file with a definition block\n",
+            ),
+            (
+                &["names", "FOO_=1", "a"],
+                "no file with a definition block\n",
+            ),
             (&["unpack"], "no file to unpack\n"),
             (&["unpack", "x"], "no folder for the files\n"),
             (
