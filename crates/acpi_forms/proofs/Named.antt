@@ -1,17 +1,11 @@
 -- The form in the row of a signature has the names and the fields of the same row.
-use Rattle.std.proofs.Common.{◌≡◌, ℕ, ◌==◌, true, false, Option, Result, Ok, Err, IfOk, List, [], ◌∷◌, map, if◌then◌else◌, refl, ap, ◌∙◌, subst, String, Global, string_bytes}
+use Rattle.std.proofs.Common.{◌≡◌, ℕ, ◌==◌, true, false, Option, List, [], ◌∷◌, map, if◌then◌else◌, refl, ap, ◌∙◌, subst}
 use Rattle.acpi_base.specs.Walk.{named}
-use Rattle.acpi_base.specs.FurtherWalk.{table_walk_of}
-use Rattle.acpi_base.specs.declared.error.Error.{Error}
-use Rattle.acpi_base.specs.declared.walk.Walk.{Walk}
 use Rattle.acpi_text.specs.Structure.{all_forms}
-use Rattle.acpi_text.specs.Table.{table_text}
 use Rattle.acpi_text.specs.declared.form.TableForm.{TableForm}
 use Rattle.acpi_forms.specs.Name.{Named, IsNamed, kinds}
-use Rattle.acpi_forms.specs.Layout.{names_in}
 use Rattle.acpi_forms.specs.Named.{find_form, find_named}
 use Rattle.acpi_forms.specs.Written.{nothing}
-use Rattle.acpi_forms.specs.Shows.{IsTextOf}
 
 -- ---- forms beside their signatures
 
@@ -59,22 +53,3 @@ pub read_is_named : (s : ℕ) (rows : List (List ℕ × TableForm)) (names : Lis
     → form ≡ find_form s rows other → map own_names rows ≡ names → IsNamed other none → IsNamed form (find_named s names none)
 read_is_named s rows names other form none found are is =
     form_is_named s rows names other form none found (subst (λ l. AreNamed rows l) are (own_are_named rows)) is
-
--- ---- texts
-
--- a text by a form that has these names
-pub text_is : (names : Named) (walk : Option Walk) (bytes : List ℕ) (form : TableForm) (result : Result (String Global) Error)
-    → IsNamed form names → IfOk result (λ text. string_bytes text ≡ table_text form walk bytes)
-    → IfOk result (λ text. IsTextOf names walk bytes (string_bytes text))
-text_is names walk bytes form (Ok text) is shown = record { form = form; is_named = is; is = shown }
-text_is names walk bytes form (Err e) is shown = tt
-
--- a table's text by the form of its signature and its bytes
-pub table_text_is : (s n : ℕ) (form : TableForm) (walk : Option Walk) (bytes shown : List ℕ) (result : Result (String Global) Error)
-    → s ≡ n → shown ≡ bytes → IsNamed form (names_in s shown) → walk ≡ table_walk_of s
-    → IfOk result (λ text. string_bytes text ≡ table_text form walk shown)
-    → IfOk result (λ text. IsTextOf (names_in n bytes) (table_walk_of n) bytes (string_bytes text))
-table_text_is s n form walk bytes shown result same is named way text =
-    let P : List ℕ → Type 0 = λ l. IfOk result (λ made. string_bytes made ≡ table_text form (table_walk_of n) l) in
-    let Q : Option Walk → Type 0 = λ w. IfOk result (λ made. string_bytes made ≡ table_text form w shown) in
-    text_is (names_in n bytes) (table_walk_of n) bytes form result (subst (λ l. IsNamed form (names_in n l)) is (subst (λ k. IsNamed form (names_in k shown)) same named)) (subst P is (subst Q (way ∙ ap table_walk_of same) text))

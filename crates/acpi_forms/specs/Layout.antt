@@ -1,12 +1,15 @@
--- Which layout a table has, and the names of its form. Two signatures have two layouts.
-use Rattle.std.specs.Prelude.{◌≡◌, ℕ, nat_le, ◌==◌, ◌&&◌, not, Bool, false, if◌then◌else◌, List, [], ◌++◌, drop, codes}
+-- Which layout a table has, and the names of its form. Three signatures have two layouts.
+use Rattle.std.specs.Prelude.{◌≡◌, ℕ, nat_le, ◌==◌, ◌&&◌, ◌||◌, not, Bool, false, if◌then◌else◌, List, [], ◌++◌, drop, codes}
 use Rattle.std.specs.Prelude.{Option, Some, None}
+use Rattle.acpi_base.specs.FurtherWalk.{table_walk_of}
 use Rattle.acpi_base.specs.Walk.{named}
 use Rattle.acpi_base.specs.declared.walk.Place.TheVariants.{Byte, Word, DWord}
+use Rattle.acpi_base.specs.declared.walk.Walk.{Walk}
 use Rattle.acpi_forms.specs.FurtherNames.{earlier_pmtt_names, specified_rimt_names}
-use Rattle.acpi_forms.specs.Named.{Named, names_of}
+use Rattle.acpi_forms.specs.Named.{Named, names_of, gtdt_names}
+use Rattle.acpi_forms.specs.Walks.{earlier_gtdt_walk}
 use Rattle.acpi_forms.specs.declared.layout.Layout.{Layout}
-use Rattle.acpi_forms.specs.declared.layout.Layout.TheVariants.{Usual, SpecifiedRimt, EarlierPmtt}
+use Rattle.acpi_forms.specs.declared.layout.Layout.TheVariants.{Usual, SpecifiedRimt, EarlierPmtt, EarlierGtdt}
 use Rattle.acpi_make.specs.Fault.{Fault, next}
 use Rattle.acpi_make.specs.Signature.{has_line, heading_at}
 use Rattle.acpi_make.specs.Text.{if_some}
@@ -50,19 +53,25 @@ pub record WrittenAreUsual : Type 0 where
 
 -- ---- the layout of a table
 
--- of bytes: the first node of a RIMT, whose offset is at 40, and the revision of a PMTT
+-- a GTDT of revision 1 or 2; a template has the revision 0
+abbrev pub is_earlier_gtdt : ℕ → Bool
+is_earlier_gtdt revision = revision == 1 || revision == 2
+
+-- of bytes: the first node of a RIMT, whose offset is at 40, and the revision of a PMTT or a GTDT
 abbrev pub layout_in : ℕ → List ℕ → Layout
 layout_in signature bytes =
     if signature == named (codes "RIMT") && is_specified_node (drop (number_at (DWord 40) bytes) bytes) then SpecifiedRimt
     else (if signature == named (codes "PMTT") && number_at (Byte 8) bytes == 1 then EarlierPmtt
-    else Usual)
+    else (if signature == named (codes "GTDT") && is_earlier_gtdt (number_at (Byte 8) bytes) then EarlierGtdt
+    else Usual))
 
 -- of a text: a field of the table itself that only one of the two layouts has
 abbrev pub layout_of_text : ℕ → List ℕ → List Item → Layout
 layout_of_text signature text parts =
     if signature == named (codes "RIMT") && has_line (codes "Offset to RIMT Node Array") text parts then SpecifiedRimt
     else (if signature == named (codes "PMTT") && not (has_line (codes "Number of Memory Devices") text parts) then EarlierPmtt
-    else Usual)
+    else (if signature == named (codes "GTDT") && not (has_line (codes "Virtual EL2 Timer GSIV") text parts) then EarlierGtdt
+    else Usual))
 
 -- ---- the names of a layout
 
@@ -70,10 +79,24 @@ abbrev pub names_as : Layout → ℕ → Named
 names_as Usual signature = names_of signature
 names_as SpecifiedRimt signature = specified_rimt_names
 names_as EarlierPmtt signature = earlier_pmtt_names
+names_as EarlierGtdt signature = gtdt_names
 
 -- those of a table of a signature
 unfoldable pub names_in : ℕ → List ℕ → Named
 names_in signature bytes = names_as (layout_in signature bytes) signature
+
+-- ---- the walk of a layout
+
+-- the timers of a GTDT before revision 3 may begin where a later one has another field
+abbrev pub walk_as : Layout → ℕ → Option Walk
+walk_as Usual signature = table_walk_of signature
+walk_as SpecifiedRimt signature = table_walk_of signature
+walk_as EarlierPmtt signature = table_walk_of signature
+walk_as EarlierGtdt signature = Some earlier_gtdt_walk
+
+-- that of a table of a signature
+unfoldable pub walk_in : ℕ → List ℕ → Option Walk
+walk_in signature bytes = walk_as (layout_in signature bytes) signature
 
 -- ---- the layout of a table that was made of a text
 
@@ -82,6 +105,7 @@ abbrev pub layout_made : Layout → Layout → Layout
 layout_made SpecifiedRimt found = SpecifiedRimt
 layout_made Usual found = found
 layout_made EarlierPmtt found = found
+layout_made EarlierGtdt found = found
 
 -- this layout, if it isn't that of the text
 abbrev pub another_layout : Layout → Layout → Option Layout
@@ -89,19 +113,28 @@ another_layout SpecifiedRimt found = None
 another_layout Usual Usual = None
 another_layout Usual SpecifiedRimt = Some SpecifiedRimt
 another_layout Usual EarlierPmtt = Some EarlierPmtt
+another_layout Usual EarlierGtdt = Some EarlierGtdt
 another_layout EarlierPmtt Usual = Some Usual
 another_layout EarlierPmtt SpecifiedRimt = Some SpecifiedRimt
 another_layout EarlierPmtt EarlierPmtt = None
+another_layout EarlierPmtt EarlierGtdt = Some EarlierGtdt
+another_layout EarlierGtdt Usual = Some Usual
+another_layout EarlierGtdt SpecifiedRimt = Some SpecifiedRimt
+another_layout EarlierGtdt EarlierPmtt = Some EarlierPmtt
+another_layout EarlierGtdt EarlierGtdt = None
 
--- what has to stand in place of a line that this layout doesn't have
-abbrev pub line_words : Layout → List ℕ
-line_words Usual = codes "a line of a PMTT whose revision isn't 1"
-line_words SpecifiedRimt = codes "a line of a RIMT whose first node is one of the RISC-V specification"
-line_words EarlierPmtt = codes "a line of a PMTT of revision 1"
+-- what has to stand in place of a line that this layout of a signature doesn't have
+abbrev pub line_words : Layout → ℕ → List ℕ
+line_words Usual signature =
+    if signature == named (codes "GTDT") then codes "a line of a GTDT of revision 3 or later"
+    else codes "a line of a PMTT whose revision isn't 1"
+line_words SpecifiedRimt signature = codes "a line of a RIMT whose first node is one of the RISC-V specification"
+line_words EarlierPmtt signature = codes "a line of a PMTT of revision 1"
+line_words EarlierGtdt signature = codes "a line of a GTDT before revision 3"
 
 -- ---- the heading of a table
 
--- the other layout of a signature that has two
+-- the other layout of a signature that has two with two names
 abbrev pub other_layout : ℕ → Layout → Option Layout
 other_layout signature Usual =
     if signature == named (codes "RIMT") then Some SpecifiedRimt
@@ -109,6 +142,7 @@ other_layout signature Usual =
     else None)
 other_layout signature SpecifiedRimt = Some Usual
 other_layout signature EarlierPmtt = Some Usual
+other_layout signature EarlierGtdt = None
 
 -- the fault of a heading that is the name of the other layout
 unfoldable pub heading_fault : Layout → ℕ → List ℕ → List Item → Option Fault

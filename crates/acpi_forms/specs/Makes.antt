@@ -2,6 +2,7 @@
 use Rattle.std.specs.Prelude.{◌≡◌, ℕ, ◌==◌, ◌&&◌, not, Bool, true, false, if◌then◌else◌, List, [], length, codes, Option, Some}
 use Rattle.std.specs.Prelude.{None, Result, Ok, Err}
 use Rattle.acpi_base.specs.Bytes.{carried}
+use Rattle.acpi_base.specs.FurtherWalk.{table_walk_of}
 use Rattle.acpi_base.specs.Walk.{named}
 use Rattle.acpi_base.specs.declared.walk.Walk.{Walk}
 use Rattle.acpi_make.specs.Gives.{Gives}
@@ -21,7 +22,8 @@ use Rattle.acpi_make.specs.declared.item.Item.{Item}
 use Rattle.acpi_make.specs.declared.make.Made.{Made}
 use Rattle.acpi_text.specs.declared.form.TableForm.{TableForm}
 use Rattle.acpi_forms.specs.File.{names_by, walk_by}
-use Rattle.acpi_forms.specs.Layout.{layout_in, layout_of_text, names_as, another_layout, line_words, layout_made, heading_fault}
+use Rattle.acpi_forms.specs.Layout.{layout_in, layout_of_text, names_as, walk_as, another_layout, line_words}
+use Rattle.acpi_forms.specs.Layout.{layout_made, heading_fault}
 use Rattle.acpi_forms.specs.Named.{Named, IsNamed, names_of}
 use Rattle.acpi_forms.specs.declared.layout.Layout.{Layout}
 
@@ -66,23 +68,24 @@ pub record IsMadeBy (names : Named) (walk : Option Walk) (file_kind : FileKind) 
 abbrev pub IsMadeIn : Layout → ℕ → List ℕ → List Item → Result Made MakeError → Type 0
 IsMadeIn layout signature text parts result =
     let kind = text_kind text parts signature in
-    IsMadeBy (names_by kind (names_as layout signature)) (walk_by kind signature) kind text parts result
+    IsMadeBy (names_by kind (names_as layout signature)) (walk_by kind (walk_as layout signature)) kind text parts result
 
 abbrev pub IsRefused : Fault → Result Made MakeError → Type 0
 IsRefused wrong result = Gives {B = Made} (λ made. made) result (Err wrong)
 
 -- a table, or in place of any fault that of a line which this layout doesn't have
-abbrev pub IsToldIn : Layout → Result Made MakeError → Result Made MakeError → Type 0
-IsToldIn layout (Ok made) result = result ≡ Ok made
-IsToldIn layout (Err errors.Memory) result = result ≡ Err errors.Memory
-IsToldIn layout (Err (errors.Fault wrong)) result = IsRefused (next wrong.from wrong.to (line_words layout) 0) result
+abbrev pub IsToldIn : Layout → ℕ → Result Made MakeError → Result Made MakeError → Type 0
+IsToldIn layout signature (Ok made) result = result ≡ Ok made
+IsToldIn layout signature (Err errors.Memory) result = result ≡ Err errors.Memory
+IsToldIn layout signature (Err (errors.Fault wrong)) result =
+    IsRefused (next wrong.from wrong.to (line_words layout signature) 0) result
 
 -- what comes of a text by the layout of its bytes
 pub record IsMadeAgain (layout : Layout) (signature : ℕ) (text : List ℕ) (parts : List Item) (result : Result Made MakeError)
     : Type 0 where
   pub outcome : Result Made MakeError
   pub is : IsMadeIn layout signature text parts outcome
-  pub told : IsToldIn layout outcome result
+  pub told : IsToldIn layout signature outcome result
 
 -- a table whose bytes have the layout of its text, or what comes of the text by the layout of these bytes
 abbrev pub IsSettled : Option Layout → ℕ → List ℕ → List Item → Made → Result Made MakeError → Type 0
@@ -152,4 +155,5 @@ pub record IsTemplateOf (signature text : List ℕ) : Type 0 where
   pub form : TableForm
   pub is_named : IsNamed form (names_by (template_kind (carried signature)) (names_of (carried signature)))
   pub is : text ≡ template_text (signature_text (template_kind (carried signature)) signature)
-      (template_kind (carried signature)) form (walk_by (template_kind (carried signature)) (carried signature))
+      (template_kind (carried signature)) form
+      (walk_by (template_kind (carried signature)) (table_walk_of (carried signature)))

@@ -51,6 +51,28 @@ const GTDT: TableForm = TableForm {
     inner: &Inner::Nothing,
 };
 
+const EARLIER_GTDT: TableForm = TableForm {
+    name: "Generic Timer Description Table (GTDT)",
+    parts: &[
+        Part::Fields(&HEADER),
+        Part::Fields(&GTDT_FIXED),
+        Part::Fields(&[
+            Row::Number("Platform Timer Count", 4),
+            Row::Preset("Platform Timer Offset", 4, 96),
+        ]),
+    ],
+    structures: &GTDT_TIMERS,
+    further: &[],
+    inner: &Inner::Nothing,
+};
+
+/// Returns the form of the same table before revision 3, which has no virtual EL2 timer (ACPI 6.2, 5.2.24).
+pub fn earlier_gtdt_form() -> TableForm
+    ensures { IsNamed result gtdt_names }
+{
+    EARLIER_GTDT
+}
+
 /// Returns the form of the Generic Timer Description Table (ACPI 6.5, 5.2.25).
 pub fn gtdt_form() -> TableForm
     ensures { IsNamed result gtdt_names }

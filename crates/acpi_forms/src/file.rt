@@ -10,8 +10,7 @@ use crate::form::{facs_form, rsdp_form};
 use crate::further::cdat::{cdat_form, cdat_walk};
 use crate::further::s3pt::{s3pt_form, s3pt_walk};
 use crate::kind::kind_of;
-use crate::layout::form_in;
-use acpi_base::further_walk::table_walk_of;
+use crate::layout::{form_in, walk_in};
 use acpi_base::walk::Walk;
 use acpi_make::file_kind::FileKind;
 use acpi_read::bytes::dword_at;
@@ -30,12 +29,12 @@ pub(crate) fn form_by(file_kind: FileKind, of_table: TableForm) -> TableForm
     }
 }
 
-/// Returns the walk of a kind. That of a table with a standard header is that of its signature.
-pub(crate) fn walk_by(file_kind: FileKind, signature: u32) -> Option<Walk>
-    ensures { result ≡ walk_by file_kind signature }
+/// Returns the walk of a kind. That of a table with a standard header is `of_table`.
+pub(crate) fn walk_by(file_kind: FileKind, of_table: Option<Walk>) -> Option<Walk>
+    ensures { result ≡ walk_by file_kind of_table }
 {
     match file_kind {
-        FileKind::Table => table_walk_of(signature),
+        FileKind::Table => of_table,
         FileKind::Rsdp => None,
         FileKind::Facs => None,
         FileKind::Cdat => Some(cdat_walk()),
@@ -66,5 +65,5 @@ pub fn file_form(bytes: &[u8]) -> TableForm
 pub fn file_walk(bytes: &[u8]) -> Option<Walk>
     ensures { result ≡ file_walk bytes.now }
 {
-    walk_by(kind_of(bytes), signature_in(bytes))
+    walk_by(kind_of(bytes), walk_in(signature_in(bytes), bytes))
 }

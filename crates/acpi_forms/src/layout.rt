@@ -1,18 +1,21 @@
-//! The form of a table by its bytes, and by its text. Two signatures have two layouts.
+//! The form and the walk of a table by its bytes, and by its text. Three signatures have two layouts.
 
 ghost use Rattle.std.specs.Prelude.{◌≡◌, drop};
 ghost use Rattle.acpi_forms.specs.Layout.{is_specified_iommu, is_specified_root_complex, is_specified_platform};
 ghost use Rattle.acpi_forms.specs.Layout.{is_specified_node};
-ghost use Rattle.acpi_forms.specs.Layout.{WrittenAreUsual};
-ghost use Rattle.acpi_forms.specs.Layout.{layout_in, layout_of_text, names_as, names_in};
+ghost use Rattle.acpi_forms.specs.Layout.{is_earlier_gtdt, WrittenAreUsual};
+ghost use Rattle.acpi_forms.specs.Layout.{layout_in, layout_of_text, names_as, names_in, walk_as, walk_in};
 ghost use Rattle.acpi_forms.specs.Layout.{layout_made, another_layout, line_words, other_layout, heading_fault};
 ghost use Rattle.acpi_forms.specs.Named.{IsNamed};
+ghost use Rattle.acpi_forms.specs.Walks.{earlier_gtdt_walk};
 ghost use Rattle.acpi_make.specs.Draft.{fault_in};
 
+use crate::arm::earlier_gtdt_form;
 use crate::form::form_of;
 use crate::further::pmtt::earlier_pmtt_form;
 use crate::further::rimt::specified_rimt_form;
-use acpi_base::walk::Place;
+use acpi_base::further_walk::table_walk_of;
+use acpi_base::walk::{Place, Sizes, Walk};
 use acpi_make::fault::Fault;
 use acpi_make::item::Item;
 use acpi_make::signature::{has_line, heading_at};
@@ -22,12 +25,14 @@ use acpi_text::part::number_at;
 /// Which layout a table has.
 #[derive(Clone, Copy, Debug, PartialEq, Eq)]
 pub enum Layout {
-    /// The one layout of its signature, or, of a RIMT, this project's profile, and of a PMTT the one of revision 2.
+    /// The one layout of its signature, or, of a RIMT, this project's profile, and of a PMTT or a GTDT that of later revisions.
     Usual,
     /// That of a RIMT of the RISC-V specification.
     SpecifiedRimt,
     /// That of a PMTT of revision 1.
     EarlierPmtt,
+    /// That of a GTDT before revision 3, whose timers may begin at 96.
+    EarlierGtdt,
 }
 
 // Returns the bytes from an offset on.
@@ -82,6 +87,13 @@ fn is_specified_node(node: &[u8]) -> bool
     }
 }
 
+// Returns whether a GTDT of a revision has the earlier layout. A template has the revision 0.
+fn is_earlier_gtdt(revision: usize) -> bool
+    ensures { result ≡ is_earlier_gtdt revision }
+{
+    revision == 1 || revision == 2
+}
+
 /// Returns the layout of a table of a signature. The first node of a RIMT, whose offset is at 40, says which layout the table
 /// has. Where it doesn't, the table has that of the profile.
 pub(crate) fn layout_in(signature: u32, bytes: &[u8]) -> Layout
@@ -93,6 +105,10 @@ pub(crate) fn layout_in(signature: u32, bytes: &[u8]) -> Layout
         Layout::SpecifiedRimt
     } else if signature == u32::from_le_bytes(*b"PMTT") && number_at(Place::Byte(8), bytes) == 1 {
         Layout::EarlierPmtt
+    } else if signature == u32::from_le_bytes(*b"GTDT")
+        && is_earlier_gtdt(number_at(Place::Byte(8), bytes))
+    {
+        Layout::EarlierGtdt
     } else {
         Layout::Usual
     }
@@ -110,6 +126,10 @@ pub(crate) fn layout_of_text(signature: u32, text: &[u8], items: &[Item]) -> Lay
         && !has_line(b"Number of Memory Devices", text, items)
     {
         Layout::EarlierPmtt
+    } else if signature == u32::from_le_bytes(*b"GTDT")
+        && !has_line(b"Virtual EL2 Timer GSIV", text, items)
+    {
+        Layout::EarlierGtdt
     } else {
         Layout::Usual
     }
@@ -123,6 +143,30 @@ pub(crate) fn form_as(layout: Layout, signature: u32) -> TableForm
         Layout::Usual => form_of(signature),
         Layout::SpecifiedRimt => specified_rimt_form(),
         Layout::EarlierPmtt => earlier_pmtt_form(),
+        Layout::EarlierGtdt => earlier_gtdt_form(),
+    }
+}
+
+// Returns how the timers of a GTDT before revision 3 are found.
+fn earlier_gtdt_walk() -> Walk
+    ensures { result ≡ earlier_gtdt_walk }
+{
+    Walk {
+        start: 96,
+        sizes: Sizes::ToldAt(Place::Word(1)),
+        kind: Place::Byte(0),
+        count: Place::DWord(88),
+        first: Place::DWord(92),
+    }
+}
+
+/// Returns the walk of the tables of a signature that have a layout.
+pub(crate) fn walk_as(layout: Layout, signature: u32) -> Option<Walk>
+    ensures { result ≡ walk_as layout signature }
+{
+    match layout {
+        Layout::Usual | Layout::SpecifiedRimt | Layout::EarlierPmtt => table_walk_of(signature),
+        Layout::EarlierGtdt => Some(earlier_gtdt_walk()),
     }
 }
 
@@ -142,6 +186,15 @@ pub fn form_in(signature: u32, bytes: &[u8]) -> TableForm
     form_as(layout_in(signature, bytes), signature)
 }
 
+/// Returns the walk of a table of a signature, by its bytes. The timers of a GTDT begin after the offset of the first before
+/// revision 3 (the byte at 8), and after the virtual EL2 timer from there on. All other tables have the walk of their signature.
+#[tactic(auto, unfolding(crate::specs::Layout::walk_in))]
+pub fn walk_in(signature: u32, bytes: &[u8]) -> Option<Walk>
+    ensures { result ≡ walk_in signature bytes.now }
+{
+    walk_as(layout_in(signature, bytes), signature)
+}
+
 /// Returns the layout of a table that was made of a text, by that of the text and that of the bytes. A RIMT of the specification
 /// has that of its text, since not each first node says it.
 pub(crate) fn layout_made(stated: Layout, found: Layout) -> Layout
@@ -149,7 +202,7 @@ pub(crate) fn layout_made(stated: Layout, found: Layout) -> Layout
 {
     match stated {
         Layout::SpecifiedRimt => Layout::SpecifiedRimt,
-        Layout::Usual | Layout::EarlierPmtt => found,
+        Layout::Usual | Layout::EarlierPmtt | Layout::EarlierGtdt => found,
     }
 }
 
@@ -161,24 +214,29 @@ pub(crate) fn another_layout(stated: Layout, found: Layout) -> Option<Layout>
         (Layout::SpecifiedRimt, _) => None,
         (Layout::Usual, Layout::Usual) => None,
         (Layout::EarlierPmtt, Layout::EarlierPmtt) => None,
+        (Layout::EarlierGtdt, Layout::EarlierGtdt) => None,
         (_, found) => Some(found),
     }
 }
 
-/// Returns what has to stand in place of a line that a layout doesn't have.
-pub(crate) fn line_words(layout: Layout) -> &'static str
-    ensures { result.now ≡ line_words layout }
+/// Returns what has to stand in place of a line that a layout of a signature doesn't have.
+pub(crate) fn line_words(layout: Layout, signature: u32) -> &'static str
+    ensures { result.now ≡ line_words layout signature }
 {
     match layout {
+        Layout::Usual if signature == u32::from_le_bytes(*b"GTDT") => {
+            "a line of a GTDT of revision 3 or later"
+        }
         Layout::Usual => "a line of a PMTT whose revision isn't 1",
         Layout::SpecifiedRimt => {
             "a line of a RIMT whose first node is one of the RISC-V specification"
         }
         Layout::EarlierPmtt => "a line of a PMTT of revision 1",
+        Layout::EarlierGtdt => "a line of a GTDT before revision 3",
     }
 }
 
-// Returns the other layout of a signature that has two.
+// Returns the other layout of a signature that has two with two names.
 fn other_layout(signature: u32, layout: Layout) -> Option<Layout>
     ensures { result ≡ other_layout signature layout }
 {
@@ -187,6 +245,7 @@ fn other_layout(signature: u32, layout: Layout) -> Option<Layout>
         Layout::Usual if signature == u32::from_le_bytes(*b"PMTT") => Some(Layout::EarlierPmtt),
         Layout::Usual => None,
         Layout::SpecifiedRimt | Layout::EarlierPmtt => Some(Layout::Usual),
+        Layout::EarlierGtdt => None,
     }
 }
 

@@ -10,8 +10,9 @@ use crate::file::{form_by, walk_by};
 use crate::form::form_of;
 use crate::layout::{
     Layout, another_layout, form_as, heading_fault, layout_in, layout_made, layout_of_text,
-    line_words,
+    line_words, walk_as,
 };
+use acpi_base::further_walk::table_walk_of;
 use acpi_make::fault::{Fault, MakeError, Wanted};
 use acpi_make::file_kind::FileKind;
 use acpi_make::item::{Item, has_bytes};
@@ -70,17 +71,21 @@ fn make_in(
 {
     let file_kind = text_kind(text, items, signature);
     let form = form_by(file_kind, form_as(layout, signature));
-    let walk = walk_by(file_kind, signature);
+    let walk = walk_by(file_kind, walk_as(layout, signature));
     make_of(alloc, form, walk, file_kind, text, items)
 }
 
 // Returns an outcome with the fault of a line that a layout doesn't have, in place of any other fault.
-fn tell_in(layout: Layout, outcome: Result<Made, MakeError>) -> Result<Made, MakeError>
-    ensures { IsToldIn layout outcome result }
+fn tell_in(
+    layout: Layout,
+    signature: u32,
+    outcome: Result<Made, MakeError>,
+) -> Result<Made, MakeError>
+    ensures { IsToldIn layout signature outcome result }
 {
     match outcome {
         Err(MakeError::Fault(wrong)) => {
-            let fault = Fault::next(wrong.from, wrong.to, line_words(layout), 0);
+            let fault = Fault::next(wrong.from, wrong.to, line_words(layout, signature), 0);
             Err(MakeError::Fault(fault))
         }
         outcome => outcome,
@@ -98,7 +103,7 @@ fn make_again(
     ensures { IsMadeAgain layout signature text.now items.now result }
 {
     let outcome = make_in(alloc, layout, signature, text, items);
-    tell_in(layout, outcome)
+    tell_in(layout, signature, outcome)
 }
 
 // Returns a table whose bytes have the layout of its text, or what comes of the text by the layout of these bytes.
@@ -145,6 +150,7 @@ fn make_as(alloc: Global, signature: u32, text: &[u8], items: &[Item]) -> Result
 ///
 /// - The text of a RIMT that has a line `Offset to RIMT Node Array` is that of a table of the RISC-V specification.
 /// - The text of a PMTT that has no line `Number of Memory Devices` is that of a table of revision 1.
+/// - The text of a GTDT that has no line `Virtual EL2 Timer GSIV` is that of a table before revision 3.
 ///
 /// If the bytes of the table have the other layout, the text has to be that of a table of this other one, too, as a text without
 /// names is. Its first line isn't the name of a table of the layout that the table doesn't have.
@@ -200,7 +206,7 @@ pub fn template(alloc: Global, signature: &str) -> Result<Option<String>, AllocE
     };
     let file_kind = template_kind(number);
     let form = form_by(file_kind, form_of(number));
-    let walk = walk_by(file_kind, number);
+    let walk = walk_by(file_kind, table_walk_of(number));
     let first = signature_text(file_kind, signature);
     Ok(Some(template_of(alloc, first, file_kind, &form, walk)?))
 }

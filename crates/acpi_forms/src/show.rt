@@ -2,19 +2,17 @@
 
 ghost use Rattle.std.specs.Prelude.{◌≡◌, None, IfOk, IfErr, string_bytes};
 ghost use Rattle.acpi_base.specs.Bytes.{field_at};
-ghost use Rattle.acpi_base.specs.FurtherWalk.{table_walk_of};
 ghost use Rattle.acpi_base.specs.declared.error.Error.TheVariants.{Memory};
 ghost use Rattle.acpi_forms.specs.File.{IsFileText};
-ghost use Rattle.acpi_forms.specs.Layout.{names_in};
+ghost use Rattle.acpi_forms.specs.Layout.{names_in, walk_in};
 ghost use Rattle.acpi_forms.specs.Named.{Named, IsNamed, rsdp_names, facs_names};
 ghost use Rattle.acpi_forms.specs.Shows.{IsTextOf};
 ghost use Rattle.acpi_text.specs.Reading.{bytes_of};
 
 use crate::file::{file_form, file_walk};
 use crate::form::{facs_form, rsdp_form};
-use crate::layout::form_in;
+use crate::layout::{form_in, walk_in};
 use acpi_base::error::R;
-use acpi_base::further_walk::table_walk_of;
 use acpi_base::walk::Walk;
 use acpi_read::pieces::signature_number;
 use acpi_read::table::Table;
@@ -51,7 +49,7 @@ fn text_by(alloc: Global, form: &TableForm, walk: Option<Walk>, bytes: &[u8]) ->
 /// The text determines the table. The only error is Memory.
 pub fn show(alloc: Global, table: &Table) -> R<String>
     ensures text { IfOk result (λ text. IsTextOf (names_in (field_at 0 4 table.now) table.now)
-        (table_walk_of (field_at 0 4 table.now)) table.now (string_bytes text)) }
+        (walk_in (field_at 0 4 table.now) table.now) table.now (string_bytes text)) }
     ensures bytes { IfOk result (λ text. bytes_of (string_bytes text) ≡ table.now) }
     ensures err { IfErr result (λ e. e ≡ Memory) }
 {
@@ -60,7 +58,7 @@ pub fn show(alloc: Global, table: &Table) -> R<String>
     text_by(
         alloc,
         &form_in(signature, bytes),
-        table_walk_of(signature),
+        walk_in(signature, bytes),
         bytes,
     )
 }
