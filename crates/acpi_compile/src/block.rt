@@ -118,17 +118,6 @@ fn set_creator(table: &mut Sdt, creator: [u8; 8]) {
     }
 }
 
-// A text of which a block was made.
-#[derive(Clone, Copy)]
-struct Made<'a> {
-    // The text without what a compiler skips.
-    kept: &'a [u8],
-    // The place of its DefinitionBlock.
-    at: usize,
-    // The statements of the block.
-    body: &'a [Node<'a>],
-}
-
 // The number of bytes at the front that are the same.
 fn same(a: &[u8], b: &[u8]) -> usize {
     a.iter().zip(b.iter()).take_while(|(x, y)| x == y).count()
@@ -149,7 +138,8 @@ fn after_note(kept: &[u8]) -> &[u8]
 // The ASL of a block, in which names take these numbers of arguments, without what a compiler skips.
 fn shown(
     alloc: Global,
-    made: &Made<'_>,
+    kept: &[u8],
+    node: &Node<'_>,
     called: &Arities,
     block: &[u8],
 ) -> Result<Vec<u8>, AslError>
@@ -159,7 +149,7 @@ fn shown(
     match text_of_block(alloc, BlockText::Asl, called, &[], block) {
         Ok(text) => Ok(squeezed(alloc, text.as_bytes())?),
         Err(ReadError::Memory) => Err(AslError::Memory),
-        Err(error) => Err(unreadable(alloc, made, called, block, error)?),
+        Err(error) => Err(unreadable(alloc, kept, node, called, block, error)?),
     }
 }
 
@@ -167,7 +157,8 @@ fn shown(
 // have the note on bytes that can't.
 fn unreadable(
     alloc: Global,
-    made: &Made<'_>,
+    kept: &[u8],
+    node: &Node<'_>,
     called: &Arities,
     block: &[u8],
     error: ReadError,
@@ -176,12 +167,12 @@ fn unreadable(
 {
     let text = text_in_part(alloc, BlockText::Asl, called, &[], block)?;
     let squeezed = squeezed(alloc, text.as_bytes())?;
-    let shown = noted_as(&squeezed, made.kept);
-    let at = place_of(shown, made.kept);
+    let shown = noted_as(&squeezed, kept);
+    let at = place_of(shown, kept);
     if !from(at, shown).starts_with(b"/*= not read") {
-        return unlike(alloc, shown, made);
+        return unlike(alloc, shown, kept, node);
     }
-    let at = past_space(made.kept, at);
+    let at = past_space(kept, at);
     match error {
         ReadError::TooDeep(_) => Ok(fault(at, Why::TooDeep)),
         _ => Ok(fault(at, Why::Unreadable)),
@@ -258,12 +249,11 @@ fn has_absent(kept: &[u8], name: &[u8]) -> bool {
 
 // The fault of a text at its first word that the ASL of the block doesn't have. A name that the text doesn't declare is reported
 // where the text uses it.
-fn unlike(alloc: Global, shown: &[u8], made: &Made<'_>) -> Result<AslError, AslError> {
-    let kept = made.kept;
+fn unlike(alloc: Global, shown: &[u8], kept: &[u8], node: &Node<'_>) -> Result<AslError, AslError> {
     let at = place_of(shown, kept);
     let name = absent_at(shown, at);
     if !name.is_empty() && !has_absent(kept, name) {
-        let used = first_use(MAX_LISTS, at, last(name), made.body);
+        let used = first_use(MAX_LISTS, at, last(name), list_of(&node.body));
         let why = Why::Undeclared(Vec::from_slice(alloc, name)?);
         return Ok(fault(used.unwrap_or(at), why));
     }
@@ -272,23 +262,29 @@ fn unlike(alloc: Global, shown: &[u8], made: &Made<'_>) -> Result<AslError, AslE
 }
 
 // Refuses a block whose ASL is another text.
-fn check(alloc: Global, made: &Made<'_>, called: &Arities, block: &[u8]) -> Result<(), AslError>
+fn check(
+    alloc: Global,
+    kept: &[u8],
+    node: &Node<'_>,
+    called: &Arities,
+    block: &[u8],
+) -> Result<(), AslError>
     requires { 36 ≤ length block.now }
     ensures table { OnOk result (IsTrueTable block.now) }
     ensures terms { OnOk result (has_terms block.now ≡ true) }
-    ensures shown { OnOk result (IsShownAs called.now block.now made.now.kept.now) }
+    ensures shown { OnOk result (IsShownAs called.now block.now kept.now) }
 {
     if !has_terms(block) || Table::check(block).is_err() {
-        return Err(fault(made.at, Why::Block));
+        return Err(fault(node.at, Why::Block));
     }
-    let shown = shown(alloc, made, called, block)?;
-    if shown.as_slice() == made.kept {
+    let shown = shown(alloc, kept, node, called, block)?;
+    if shown.as_slice() == kept {
         return Ok(());
     }
-    if after_note(&shown) == made.kept {
+    if after_note(&shown) == kept {
         return Ok(());
     }
-    Err(unlike(alloc, noted_as(&shown, made.kept), made)?)
+    Err(unlike(alloc, noted_as(&shown, kept), kept, node)?)
 }
 
 /// Makes a text into the definition block that it is the ASL of.
@@ -310,12 +306,7 @@ pub fn compile(alloc: Global, text: &[u8]) -> Result<Vec<u8>, AslError>
     let list = statements(&Context::new(alloc)?, MAX_LISTS, body)?;
     let table = block_of(alloc, node, &list.terms)?;
     let called = stated(alloc, body)?;
-    let made = Made {
-        kept: &kept,
-        at: node.at,
-        body,
-    };
-    check(alloc, &made, &called, table.as_slice())?;
+    check(alloc, &kept, node, &called, table.as_slice())?;
     Ok(Vec::from_slice(alloc, table.as_slice())?)
 }
 
