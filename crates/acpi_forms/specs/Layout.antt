@@ -6,7 +6,7 @@ use Rattle.acpi_base.specs.Walk.{named}
 use Rattle.acpi_base.specs.declared.walk.Place.TheVariants.{Byte, Word, DWord}
 use Rattle.acpi_base.specs.declared.walk.Walk.{Walk}
 use Rattle.acpi_forms.specs.FurtherNames.{earlier_pmtt_names, specified_rimt_names}
-use Rattle.acpi_forms.specs.Named.{Named, names_of, gtdt_names}
+use Rattle.acpi_forms.specs.Named.{Named, names_of, earlier_gtdt_names}
 use Rattle.acpi_forms.specs.Walks.{earlier_gtdt_walk}
 use Rattle.acpi_forms.specs.declared.layout.Layout.{Layout}
 use Rattle.acpi_forms.specs.declared.layout.Layout.TheVariants.{Usual, SpecifiedRimt, EarlierPmtt, EarlierGtdt}
@@ -79,7 +79,7 @@ abbrev pub names_as : Layout → ℕ → Named
 names_as Usual signature = names_of signature
 names_as SpecifiedRimt signature = specified_rimt_names
 names_as EarlierPmtt signature = earlier_pmtt_names
-names_as EarlierGtdt signature = gtdt_names
+names_as EarlierGtdt signature = earlier_gtdt_names
 
 -- those of a table of a signature
 unfoldable pub names_in : ℕ → List ℕ → Named

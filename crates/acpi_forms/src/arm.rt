@@ -1,6 +1,6 @@
 //! The forms of the tables of an Arm machine.
 
-ghost use Rattle.acpi_forms.specs.Named.{IsNamed, gtdt_names, dbg2_names, iort_names};
+ghost use Rattle.acpi_forms.specs.Named.{IsNamed, gtdt_names, earlier_gtdt_names, dbg2_names, iort_names};
 
 use crate::further::iort::IORT_FURTHER;
 use acpi_arm::dbg2::DEBUG_DEVICE;
@@ -68,7 +68,7 @@ const EARLIER_GTDT: TableForm = TableForm {
 
 /// Returns the form of the same table before revision 3, which has no virtual EL2 timer (ACPI 6.2, 5.2.24).
 pub fn earlier_gtdt_form() -> TableForm
-    ensures { IsNamed result gtdt_names }
+    ensures { IsNamed result earlier_gtdt_names }
 {
     EARLIER_GTDT
 }

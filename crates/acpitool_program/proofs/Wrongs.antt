@@ -1,5 +1,5 @@
 -- Words that are wrong ask for no command.
-use Rattle.std.proofs.Common.{◌≡◌, ◌≢◌, ◌⊎◌, ◌≤◌, ℕ, List, [], ◌∷◌, length, Option, Some, None, refl, map, string_bytes, ap, sym, subst, ◌∙◌, inl, inr, arith, codes}
+use Rattle.std.proofs.Common.{◌≡◌, ◌≢◌, ◌⊎◌, ◌≤◌, ℕ, List, [], ◌∷◌, length, Option, Some, None, refl, ap, sym, subst, ◌∙◌, inl, inr, arith, codes}
 use Rattle.acpitool_program.proofs.Rests.{same_rest, no_pointer, no_address}
 use Rattle.acpitool_program.proofs.Verbs.{heads, tails, same_verb, no_version, no_help}
 use Rattle.acpitool_program.specs.Command.{word_of, first_option, after_option, files_in, files_after, unforced, IsAddress, AreImage, AreUnpack, AreLay, IsRest, IsHelp, BeginsWithHelp, Asks, IsNoCommand}

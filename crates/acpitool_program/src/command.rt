@@ -493,11 +493,12 @@ fn disassemble(words: &[String]) -> Result<Command<'_>, Wrong<'_>>
     ensures { (all : List (List ℕ)) → all ≡ codes "disassemble" ∷ map (λ word. string_bytes word) words.now
         → MatchResult result (Asks all) (IsWrong all) }
 {
+    if files_in(words) == 0 {
+        return Err(Wrong::NoBlock);
+    }
     match words {
-        [file, others @ ..] if files_in(words) > 0 => {
-            Ok(Command::Disassemble(file.as_str(), others))
-        }
-        _ => Err(Wrong::NoBlock),
+        [] => Err(Wrong::NoBlock),
+        [file, others @ ..] => Ok(Command::Disassemble(file.as_str(), others)),
     }
 }
 
@@ -509,11 +510,12 @@ fn names(words: &[String]) -> Result<Command<'_>, Wrong<'_>>
 {
     let json = begins_with("--json", words);
     let rest = after_option(Verb::Names, words);
+    if files_in(rest) == 0 {
+        return Err(Wrong::NoBlock);
+    }
     match rest {
-        [file, others @ ..] if files_in(rest) > 0 => {
-            Ok(Command::Names(json, file.as_str(), others))
-        }
-        _ => Err(Wrong::NoBlock),
+        [] => Err(Wrong::NoBlock),
+        [file, others @ ..] => Ok(Command::Names(json, file.as_str(), others)),
     }
 }
 

@@ -1,4 +1,4 @@
-use Rattle.std.proofs.Common.{List, ℕ, String, Global, map, string_bytes, inl, inr}
+use Rattle.std.proofs.Common.{List, ℕ, String, Global, map, string_bytes, inr}
 use Rattle.acpitool_program.proofs.Words.{third_word}
 use Rattle.acpitool_program.proofs.command.repair.Goals as goal
 
