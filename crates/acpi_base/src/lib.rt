@@ -22,6 +22,7 @@ pub mod record;
 pub mod row;
 pub mod sdt;
 pub mod sink;
+pub mod slice;
 pub mod sum;
 pub mod summed;
 pub mod text;
