@@ -1,3 +1,4 @@
+pub mod Aliases
 pub mod Groups
 pub mod Woven
 pub mod Templates

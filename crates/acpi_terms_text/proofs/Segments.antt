@@ -12,7 +12,7 @@ use Rattle.acpi_terms_text.specs.declared.objects.Kept.TheVariants.{All, Among, 
 use Rattle.acpi_terms_text.specs.Objects.{inside, is_method, Callee, makes, if_named, as_segment, own_unit, own_units, own_external, made_by, name_at, own_operand, own_objects, objects}
 use Rattle.acpi_terms_text.specs.Objects.{own_segment, segments, all_among, segment_of, own_segments, segments_in, has_segment, if_kept, all_kept, named_in, with_other}
 use Rattle.acpi_terms_text.specs.Path.{last_segment}
-use Rattle.acpi_terms_text.proofs.Walks.{both_added, objects_step, objects_over}
+use Rattle.acpi_terms_text.proofs.Walks.{both_added, made_step, made_over}
 
 -- four bytes that are a segment are a name
 pub is_name : (s : List ℕ) → 4 ≤ length s → length s < 5
@@ -78,7 +78,7 @@ kept_both k (m ∷ a) b =
 -- those of a list of terms
 pub kept_step : (k : Kept) (scope : List ℕ) (t : Term) (ts : List Term)
     → all_kept k (objects scope (views (t ∷ ts))) ≡ all_kept k (objects scope (single (view t))) ++ all_kept k (objects scope (views ts))
-kept_step k scope t ts = ap (all_kept k) (objects_step scope t ts) ∙ kept_both k (objects scope (single (view t))) (objects scope (views ts))
+kept_step k scope t ts = ap (all_kept k) (made_step own_objects scope t ts) ∙ kept_both k (objects scope (single (view t))) (objects scope (views ts))
 
 -- those of a term, and then those of its children in two lists
 module _ (k : Kept) (scope inner : List ℕ) (t : Term) (h : Head) (w : ℕ) (a b : List Term) (apart : IsApart t h w a b) where
@@ -91,7 +91,7 @@ module _ (k : Kept) (scope inner : List ℕ) (t : Term) (h : Head) (w : ℕ) (a 
       let first = objects inner (views a) in
       let second = objects inner (views b) in
       let whole : (own ++ first) ++ second ≡ objects scope (single (view t)) =
-      objects_over scope inner t h w a b apart into [] own (own ++ first) ((own ++ first) ++ second) refl refl refl
+      made_over own_objects scope inner t h w a b apart into [] own (own ++ first) ((own ++ first) ++ second) refl refl refl
       in
       let kept : all_kept k (objects scope (single (view t))) ≡ (all_kept k own ++ all_kept k first) ++ all_kept k second =
       ap (all_kept k) (sym whole) ∙ kept_both k (own ++ first) second ∙ ap (λ (l : Callees). l ++ all_kept k second) (kept_both k own first)

@@ -3,11 +3,11 @@ use Rattle.std.proofs.Common.{◌≡◌, ℕ, suc, ◌+◌, ◌-◌, ◌<◌, �
 use Rattle.std.proofs.lemmas.List.{append-nil, take_all}
 use Rattle.acpi_term.specs.declared.term.Term.{Term}
 use Rattle.acpi_term.specs.Arity.{with_new, with_all}
-use Rattle.acpi_term.specs.Tree.{Head}
+use Rattle.acpi_term.specs.Tree.{Head, Terms}
 use Rattle.acpi_term.specs.View.{view, views, single, IsApart}
 use Rattle.acpi_read.proofs.Texts.{dropped}
 use Rattle.acpi_term.specs.PathText.{name_of_segments}
-use Rattle.acpi_terms_text.specs.Objects.{counted, from_each, inside, Callee, own_objects, numbers_of, numbers_from, objects}
+use Rattle.acpi_terms_text.specs.Objects.{counted, from_each, inside, made, Callee, numbers_of, numbers_from}
 use Rattle.acpi_terms_text.specs.Comment.{has_ids, has_size, note}
 use Rattle.acpi_terms_text.specs.Woven.{entry_notes, notes}
 
@@ -65,42 +65,41 @@ called_done n k all now whole least before =
     let none : 0 ≡ n - k = omega (arith, least) in
     ap (λ (l : ℕ). with_all now (numbers_from l k all)) none ∙ before
 
--- ---- objects
+-- ---- what terms make
 
-abbrev Callees : Type 0
-Callees = List Callee
+-- if this is what a head with its children makes in a scope
+module _ {A : Type 0} (own : List ℕ → Head → Terms → List A) where
+  pub made_step : (scope : List ℕ) (t : Term) (ts : List Term) → made own scope (views (t ∷ ts)) ≡ made own scope (single (view t)) ++ made own scope (views ts)
+  made_step scope t ts =
+      let front = own scope (view t).0 (view t).2 in
+      let inner = made own (inside scope (view t).0) (view t).2 in
+      ap (λ (l : List A). front ++ (l ++ made own scope (views ts))) (sym (append-nil inner)) ∙ sym (append_assoc front (inner ++ []) (made own scope (views ts)))
 
-pub objects_step : (scope : List ℕ) (t : Term) (ts : List Term) → objects scope (views (t ∷ ts)) ≡ objects scope (single (view t)) ++ objects scope (views ts)
-objects_step scope t ts =
-    let own = own_objects scope (view t).0 (view t).2 in
-    let inner = objects (inside scope (view t).0) (view t).2 in
-    ap (λ (l : Callees). own ++ (l ++ objects scope (views ts))) (sym (append-nil inner)) ∙ sym (append_assoc own (inner ++ []) (objects scope (views ts)))
+  made_both : (scope : List ℕ) (a b : List Term) → made own scope (views (a ++ b)) ≡ made own scope (views a) ++ made own scope (views b)
+  made_both scope [] b = refl
+  made_both scope (t ∷ a) b =
+      let one = made own scope (single (view t)) in
+      made_step scope t (a ++ b) ∙ ap (λ (l : List A). one ++ l) (made_both scope a b) ∙ sym (append_assoc one (made own scope (views a)) (made own scope (views b)))
+      ∙ ap (λ (l : List A). l ++ made own scope (views b)) (sym (made_step scope t a))
 
-objects_both : (scope : List ℕ) (a b : List Term) → objects scope (views (a ++ b)) ≡ objects scope (views a) ++ objects scope (views b)
-objects_both scope [] b = refl
-objects_both scope (t ∷ a) b =
-    let one = objects scope (single (view t)) in
-    objects_step scope t (a ++ b) ∙ ap (λ (l : Callees). one ++ l) (objects_both scope a b) ∙ sym (append_assoc one (objects scope (views a)) (objects scope (views b)))
-    ∙ ap (λ (l : Callees). l ++ objects scope (views b)) (sym (objects_step scope t a))
-
--- a term, and then its children in two lists
-pub objects_over : (scope inner : List ℕ) (t : Term) (h : Head) (w : ℕ) (a b : List Term) → IsApart t h w a b → inner ≡ inside scope h
-    → (old one two new : Callees) → one ≡ old ++ own_objects scope h (views (a ++ b)) → two ≡ one ++ objects inner (views a)
-    → new ≡ two ++ objects inner (views b) → new ≡ old ++ objects scope (single (view t))
-objects_over scope inner t h w a b apart into old one two new p q r =
-    let own = own_objects scope (view t).0 (view t).2 in
-    let after = objects (inside scope (view t).0) (view t).2 in
-    let children : objects inner (views a) ++ objects inner (views b) ≡ after =
-    sym (objects_both inner a b) ∙ ap (objects inner) apart.children ∙ ap (λ (s : List ℕ). objects s (view t).2) (into ∙ ap (inside scope) apart.head)
-    in
-    let owned : own_objects scope h (views (a ++ b)) ≡ own =
-    ap (own_objects scope h) apart.children ∙ ap (λ (k : Head). own_objects scope k (view t).2) apart.head
-    in
-    r ∙ ap (λ (l : Callees). l ++ objects inner (views b)) q ∙ append_assoc one (objects inner (views a)) (objects inner (views b))
-    ∙ ap (λ (l : Callees). one ++ l) children
-    ∙ ap (λ (l : Callees). l ++ after) (p ∙ ap (λ (l : Callees). old ++ l) owned)
-    ∙ append_assoc old own after
-    ∙ ap (λ (l : Callees). old ++ (own ++ l)) (sym (append-nil after))
+  -- a term, and then its children in two lists
+  pub made_over : (scope inner : List ℕ) (t : Term) (h : Head) (w : ℕ) (a b : List Term) → IsApart t h w a b → inner ≡ inside scope h
+      → (old one two new : List A) → one ≡ old ++ own scope h (views (a ++ b)) → two ≡ one ++ made own inner (views a)
+      → new ≡ two ++ made own inner (views b) → new ≡ old ++ made own scope (single (view t))
+  made_over scope inner t h w a b apart into old one two new p q r =
+      let front = own scope (view t).0 (view t).2 in
+      let after = made own (inside scope (view t).0) (view t).2 in
+      let children : made own inner (views a) ++ made own inner (views b) ≡ after =
+      sym (made_both inner a b) ∙ ap (made own inner) apart.children ∙ ap (λ (s : List ℕ). made own s (view t).2) (into ∙ ap (inside scope) apart.head)
+      in
+      let owned : own scope h (views (a ++ b)) ≡ front =
+      ap (own scope h) apart.children ∙ ap (λ (k : Head). own scope k (view t).2) apart.head
+      in
+      r ∙ ap (λ (l : List A). l ++ made own inner (views b)) q ∙ append_assoc one (made own inner (views a)) (made own inner (views b))
+      ∙ ap (λ (l : List A). one ++ l) children
+      ∙ ap (λ (l : List A). l ++ after) (p ∙ ap (λ (l : List A). old ++ l) owned)
+      ∙ append_assoc old front after
+      ∙ ap (λ (l : List A). old ++ (front ++ l)) (sym (append-nil after))
 
 -- ---- comments
 

@@ -104,8 +104,8 @@ module _ (stated : Counts) (further : List Callee) (bytes : List ℕ) (first : C
 
   are_own : AreOwn stated further bytes first
   are_own = record {
-    own = objects [] terms;
-    are = record { terms = terms; read = subst (λ (l : Counts). AreReadInPart (grammar_by Standard l) bytes terms) is_first read; is = refl };
+    terms = terms;
+    read = subst (λ (l : Counts). AreReadInPart (grammar_by Standard l) bytes terms) is_first read;
     is = is_first ∙ ap (own_numbers stated) (sym no_callees);
   }
 

@@ -1,6 +1,6 @@
 -- The report of terms with comments at the ends of lines.
 use Rattle.std.specs.Prelude.{◌≡◌, ℕ, suc, ◌-◌, ◌^◌, nat_lt, ◌==◌, ◌&&◌, ◌||◌, Bool, false, if◌then◌else◌}
-use Rattle.std.specs.Prelude.{List, [], ◌∷◌, ◌++◌, length, drop, codes}
+use Rattle.std.specs.Prelude.{List, [], ◌∷◌, ◌++◌, length, codes}
 use Rattle.std.specs.Str.{bytes_eq}
 use Rattle.acpi_term.specs.declared.language.Language.TheVariants.{Standard}
 use Rattle.acpi_term.specs.Arity.{grammar_by}
@@ -8,14 +8,11 @@ use Rattle.acpi_term.specs.Tree.{Head, number, def_name, def_buffer, def_package
 use Rattle.acpi_read.specs.Lines.{head_text, line, own_lines, term_suffix}
 use Rattle.acpi_read.specs.Terms.{AreReadIn}
 use Rattle.acpi_terms_text.specs.Eisa.{eisa_text}
+use Rattle.acpi_terms_text.specs.Path.{last_segment}
 use Rattle.acpi_terms_text.specs.Uuid.{uuid_text}
 use Rattle.acpi_terms_text.specs.Descriptor.{is_template, template_text}
 
 -- ---- what the comments say
-
--- the last segment of a name
-abbrev pub last_segment : List ℕ → List ℕ
-last_segment name = drop (length name - 4) name
 
 -- a name whose value is an id (ACPI 6.5, 6.1.5 and 6.1.2)
 abbrev pub is_id_name : List ℕ → Bool

@@ -1,12 +1,14 @@
 -- The objects of a definition block, and how many arguments the methods of them take by the names of calls.
-use Rattle.std.specs.Prelude.{◌≡◌, ℕ, zero, suc, ◌==◌, nat_le, ◌&&◌, ◌||◌, not, Bool, true, false, if◌then◌else◌}
-use Rattle.std.specs.Prelude.{List, [], ◌∷◌, ◌++◌, Option, Some, None, codes}
+use Rattle.std.specs.Prelude.{◌≡◌, ℕ, zero, suc, ◌==◌, ◌/◌, nat_le, ◌&&◌, ◌||◌, not, Bool, true, false, if◌then◌else◌}
+use Rattle.std.specs.Prelude.{List, [], ◌∷◌, ◌++◌, length, Option, Some, None, unwrap_or, codes}
+use Rattle.std.specs.Option.{option_or}
 use Rattle.std.specs.Str.{bytes_eq}
 use Rattle.acpi_term.specs.Arity.{arity, grammar_by, with_all}
 use Rattle.acpi_term.specs.declared.language.Language.TheVariants.{Standard}
 use Rattle.acpi_term.specs.Name.{is_segment}
 use Rattle.acpi_term.specs.PathText.{name_of_segments}
-use Rattle.acpi_terms_text.specs.Path.{path_in, last_segment}
+use Rattle.acpi_terms_text.specs.Path.{path_in, last_segment, parent}
+use Rattle.acpi_terms_text.specs.declared.alias.Alias.{Alias}
 use Rattle.acpi_terms_text.specs.declared.objects.Object.{Object}
 use Rattle.acpi_terms_text.specs.declared.objects.Kept.{Kept}
 use Rattle.acpi_terms_text.specs.declared.objects.Kept.TheVariants.{All, Among, In, Other}
@@ -47,7 +49,7 @@ from_each n _ = []
 abbrev pub calls : ℕ → List ℕ → List (List ℕ × ℕ)
 calls n path = counted n (name_of_segments true path) ++ from_each n path
 
--- whether an external object is a method, whose number of arguments is there (ACPI 6.5, 19.6.44 and 20.2.5.2, DefExternal)
+-- whether an external object is a method, whose number of arguments is there (ACPI 6.5, 19.6.45 and 20.2.5.2, DefExternal)
 abbrev pub is_method : ℕ → ℕ → Bool
 is_method kind args = kind == 8 && nat_le args 7
 
@@ -136,11 +138,70 @@ own_objects scope (def_bank_field name bank access lock update entries) children
 own_objects scope (op o) children = own_operand scope (made_by o) children
 own_objects scope _ children = []
 
--- those of all terms, in the order of the bytes
+-- what all terms make, in the order of the bytes, if this is what a head with its children makes in a scope
+abbrev pub made : {A : Type 0} → (List ℕ → Head → Terms → List A) → List ℕ → Terms → List A
+made own scope end = []
+made own scope (term h w children others) =
+    own scope h children ++ (made own (inside scope h) children ++ made own scope others)
+
+-- the objects of all terms
 abbrev pub objects : List ℕ → Terms → List Callee
-objects scope end = []
-objects scope (term h w children others) =
-    own_objects scope h children ++ (objects (inside scope h) children ++ objects scope others)
+objects scope terms = made own_objects scope terms
+
+-- the number of arguments of the first object of a path
+abbrev pub args_at : List ℕ → List Callee → Option ℕ
+args_at path [] = None
+args_at path (m ∷ all) = if bytes_eq m.path path then Some m.args else args_at path all
+
+-- ---- aliases (ACPI 6.5, 19.6.4)
+
+-- an alias: the scope of its term, the name of its object, and its own name
+pub record Aliased : Type 0 where
+  pub scope : List ℕ
+  pub source : List ℕ
+  pub name : List ℕ
+
+abbrev pub alias : List ℕ → List ℕ → List ℕ → Aliased
+alias s o n = record { scope = s; source = o; name = n }
+
+abbrev pub alias_by : Alias → Aliased
+alias_by a = alias a.scope.items a.source a.name
+
+abbrev pub if_both : List ℕ → Option (List ℕ) → Option (List ℕ) → List Aliased
+if_both scope None name = []
+if_both scope (Some source) None = []
+if_both scope (Some source) (Some name) = alias scope source name ∷ []
+
+-- that of an operator
+abbrev pub alias_of : List ℕ → Op → Terms → List Aliased
+alias_of scope ops.Alias operands = if_both scope (name_at 0 operands) (name_at 1 operands)
+alias_of scope _ operands = []
+
+abbrev pub own_aliases : List ℕ → Head → Terms → List Aliased
+own_aliases scope (op o) children = alias_of scope o children
+own_aliases scope _ children = []
+
+-- the aliases of all terms
+abbrev pub aliases : List ℕ → Terms → List Aliased
+aliases scope terms = made own_aliases scope terms
+
+-- In how many scopes around its own the object of a name is looked for: in all, if the name is a segment alone (ACPI 6.5, 5.3).
+abbrev pub levels : List ℕ → List ℕ → ℕ
+levels scope name = if length name == 4 then length scope / 4 else 0
+
+-- the number of arguments of the first object that has a name in a scope, or else in one of so many scopes around it
+abbrev pub args_near : ℕ → List ℕ → List ℕ → List Callee → Option ℕ
+args_near zero scope name all = args_at (path_in scope name) all
+args_near (suc n) scope name all = option_or (args_at (path_in scope name) all) (args_near n (parent scope) name all)
+
+-- an alias makes an object, which takes as many arguments as the object that is found
+abbrev pub with_alias : List Callee → Aliased → List Callee
+with_alias all a =
+    all ++ makes a.scope a.name (unwrap_or (args_near (levels a.scope a.source) a.scope a.source all) 0)
+
+abbrev pub with_aliases : List Callee → List Aliased → List Callee
+with_aliases all [] = all
+with_aliases all (a ∷ more) = with_aliases (with_alias all a) more
 
 -- ---- the objects whose number of arguments matters
 
@@ -236,9 +297,9 @@ called all = numbers_from 8 0 all
 abbrev pub predefined : List (List ℕ × ℕ)
 predefined = calls 1 (codes "_OSI")
 
--- what calls may name in a block's terms: its objects, and those of further blocks, which have the same namespace
+-- what calls may name in a block's terms: its objects, those of further blocks, which have the same namespace, and its aliases
 abbrev pub all_callees : Terms → List Callee → List Callee
-all_callees terms further = callees (objects [] terms ++ further)
+all_callees terms further = callees (with_aliases (objects [] terms ++ further) (aliases [] terms))
 
 -- The numbers that a caller states, those of objects, and those of the operating system. If there are several for a name, the
 -- first one holds.
@@ -249,20 +310,14 @@ own_numbers stated all = with_all (with_all stated (called all)) predefined
 abbrev pub first_numbers : List (List ℕ × ℕ) → List (List ℕ × ℕ)
 first_numbers stated = with_all stated predefined
 
--- The objects of the terms that can be read of bytes with these numbers.
-pub record AreObjectsIn (stated : List (List ℕ × ℕ)) (bytes : List ℕ) (all : List Callee) : Type 0 where
+-- To some objects were added those of the terms that can be read of bytes with these numbers.
+pub record AddObjectsIn (stated : List (List ℕ × ℕ)) (bytes : List ℕ) (old new : List Callee) : Type 0 where
   pub terms : Terms
   pub read : AreReadInPart (grammar_by Standard (first_numbers stated)) bytes terms
-  pub is : all ≡ objects [] terms
-
--- They were added to others.
-pub record AddObjectsIn (stated : List (List ℕ × ℕ)) (bytes : List ℕ) (old new : List Callee) : Type 0 where
-  pub more : List Callee
-  pub are : AreObjectsIn stated bytes more
-  pub added : new ≡ old ++ more
+  pub added : new ≡ with_aliases (old ++ objects [] terms) (aliases [] terms)
 
 -- The numbers of names in a block with these bytes, if further blocks have these objects.
 pub record AreOwn (stated : List (List ℕ × ℕ)) (further : List Callee) (bytes : List ℕ) (all : List (List ℕ × ℕ)) : Type 0 where
-  pub own : List Callee
-  pub are : AreObjectsIn stated bytes own
-  pub is : all ≡ own_numbers stated (callees (own ++ further))
+  pub terms : Terms
+  pub read : AreReadInPart (grammar_by Standard (first_numbers stated)) bytes terms
+  pub is : all ≡ own_numbers stated (all_callees terms further)

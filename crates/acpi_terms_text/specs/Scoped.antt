@@ -16,7 +16,7 @@ use Rattle.acpi_term.specs.declared.language.Language.TheVariants.{Standard}
 use Rattle.acpi_term.specs.declared.read_error.ReadError.{ReadError}
 use Rattle.acpi_term.specs.declared.read_error.ReadError.TheVariants.{Memory}
 use Rattle.acpi_terms_text.specs.Objects.{inside, as_segment, counted, Callee, callee_by, called, all_callees, named_in}
-use Rattle.acpi_terms_text.specs.Objects.{predefined, with_other}
+use Rattle.acpi_terms_text.specs.Objects.{args_at, predefined, with_other}
 use Rattle.acpi_terms_text.specs.Path.{parent, path_in, last_segment}
 use Rattle.acpi_terms_text.specs.declared.scoped.Sought.{Sought}
 use Rattle.acpi_terms_text.specs.declared.scoped.Sought.TheVariants.{Name, Path, Unread}
@@ -87,11 +87,6 @@ have_name terms (a ∷ all) = any (may_name a.0) terms || have_name terms all
 -- whether a name is one whose object depends on the scope, and that isn't searched: it begins with `^`, or has several segments
 abbrev pub is_relative : List ℕ → Bool
 is_relative name = nat_lt 4 (length name) && not (is_rooted name)
-
--- the number of arguments of the first object of a path
-abbrev pub args_at : List ℕ → List Callee → Option ℕ
-args_at path [] = None
-args_at path (m ∷ all) = if bytes_eq m.path path then Some m.args else args_at path all
 
 -- whether there is a number, and it is another than this one
 abbrev pub is_other : Option ℕ → ℕ → Bool

@@ -1,9 +1,10 @@
 //! The names of resource descriptors (ACPI 6.5, 6.4.2 and 6.4.3). A function whose name begins with `push` adds to a text.
 
-ghost use Rattle.std.specs.Prelude.{◌≡◌, ◌<◌, ◌^◌, ◌++◌, ◌∷◌, map, drop, OnOk, string_bytes};
+ghost use Rattle.std.specs.Prelude.{◌≡◌, ◌<◌, ◌^◌, ◌++◌, ◌∷◌, map, OnOk, string_bytes};
 ghost use Rattle.acpi_terms_text.specs.Descriptor.{large_length, item_size, item_type, name_in, names, is_space, space_names};
 ghost use Rattle.acpi_terms_text.specs.Descriptor.{or_space, space_name, name_end, is_template, template_text};
 
+use acpi_base::slice::from_offset;
 use std::alloc::AllocError;
 
 /// The types of items, and the names of their descriptors.
@@ -62,8 +63,8 @@ fn large_length(bytes: &[u8]) -> usize
     }
 }
 
-// Returns the size of the item at the front.
-fn item_size(tag: u8, more: &[u8]) -> usize
+/// Returns the size of the item that begins with a tag and these bytes (ACPI 6.5, 6.4).
+pub fn item_size(tag: u8, more: &[u8]) -> usize
     ensures { result ≡ item_size (tag ∷ more.now) }
 {
     if tag < 128 {
@@ -121,13 +122,6 @@ fn name_end(tag: u8, bytes: &[u8], size: usize) -> &'static str
     space_name(&bytes[..size.min(bytes.len())])
 }
 
-// Returns the bytes after the item at the front.
-fn after_item(bytes: &[u8], size: usize) -> &[u8]
-    ensures { result.now ≡ drop size bytes.now }
-{
-    &bytes[size.min(bytes.len())..]
-}
-
 /// Returns whether bytes are items that have names, and the end tag.
 pub fn is_template(bytes: &[u8]) -> bool
     ensures { result ≡ is_template 0 bytes.now }
@@ -140,7 +134,7 @@ pub fn is_template(bytes: &[u8]) -> bool
         if type_name(item_type(*tag)).is_empty() {
             return false;
         }
-        rest = after_item(rest, item_size(*tag, more));
+        rest = from_offset(item_size(*tag, more), rest);
     }
     false
 }
@@ -158,7 +152,7 @@ pub fn push_template(bytes: &[u8], text: &mut String) -> Result<(), AllocError>
         text.push_str(type_name(item_type(*tag)))?;
         text.push_str(name_end(*tag, rest, size))?;
         text.push_str(", ")?;
-        rest = after_item(rest, size);
+        rest = from_offset(size, rest);
     }
     Ok(())
 }

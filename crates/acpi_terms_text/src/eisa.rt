@@ -11,8 +11,8 @@ fn is_letter(n: u32) -> bool
     (1..=26).contains(&n)
 }
 
-// Returns whether 32 bits are three letters and four digits.
-fn is_id(id: u32) -> bool
+/// Returns whether 32 bits are three letters and four digits: the letters are at bits 26, 21 and 16, and bit 31 is clear.
+pub fn is_id(id: u32) -> bool
     ensures { result ≡ is_id id }
 {
     is_letter(id / 0x400_0000) && is_letter(id / 0x20_0000 % 32) && is_letter(id / 0x1_0000 % 32)
@@ -33,8 +33,8 @@ fn letter(n: u32) -> char
     (64 + n) as u8 as char
 }
 
-// Adds the three letters.
-fn push_letters(id: u32, text: &mut String) -> Result<(), AllocError>
+/// Adds the three letters of an id.
+pub fn push_letters(id: u32, text: &mut String) -> Result<(), AllocError>
     requires { is_id id ≡ true }
     ensures { OnOk result (string_bytes text.new ≡ string_bytes text.old ++ letters id) }
 {

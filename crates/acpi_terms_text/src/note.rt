@@ -2,42 +2,17 @@
 
 ghost use Rattle.std.specs.Prelude.{◌≡◌, ◌++◌, [], length, replicate, map, OnOk, string_bytes};
 ghost use Rattle.acpi_term.specs.View.{head_of, view, views, single};
-ghost use Rattle.acpi_terms_text.specs.Comment.{last_segment, is_id_name, has_ids, buffer_text, is_number, has_size};
+ghost use Rattle.acpi_terms_text.specs.Comment.{has_ids, buffer_text, is_number, has_size};
 ghost use Rattle.acpi_terms_text.specs.Comment.{number_note, note};
 ghost use Rattle.acpi_terms_text.specs.Woven.{entry_notes, notes};
 
 use crate::descriptor::{is_template, push_template};
 use crate::eisa::push_eisa;
+use crate::id::has_ids;
 use crate::uuid::push_uuid;
 use acpi_term::apart::{Kind, parts_of};
-use acpi_term::name_string::NameString;
 use acpi_term::term::{Term, TermEntry};
 use std::alloc::{AllocError, Global};
-
-fn last_segment(name: &[u8]) -> &[u8]
-    ensures { result.now ≡ last_segment name.now }
-{
-    &name[name.len().saturating_sub(4)..]
-}
-
-// Returns whether the value of a name is an id.
-fn is_id_name(name: &NameString) -> bool
-    ensures { result ≡ is_id_name name.now }
-{
-    let segment = last_segment(name.as_bytes());
-    segment == b"_HID".as_slice() || segment == b"_CID".as_slice()
-}
-
-// Returns whether the numbers among a term's children are ids.
-fn has_ids(ids: bool, kind: Kind<'_>) -> bool
-    ensures { result ≡ has_ids ids (head_of kind.entry) }
-{
-    match kind {
-        Kind::Name(name) => is_id_name(name),
-        Kind::Package | Kind::RoomyPackage(_) => ids,
-        _ => false,
-    }
-}
 
 // Adds the names of a template's descriptors, or a UUID.
 fn push_buffer(bytes: &[u8], text: &mut String) -> Result<(), AllocError>

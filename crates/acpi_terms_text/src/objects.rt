@@ -12,10 +12,12 @@ ghost use Rattle.acpi_terms_text.specs.Objects.{own_unit, own_units, own_externa
 ghost use Rattle.acpi_terms_text.specs.Objects.{made_by, name_of, name_at, own_operand, own_objects, objects};
 ghost use Rattle.acpi_terms_text.specs.Objects.{segment_of, segments, segments_in, own_segments, all_among, all_callees};
 ghost use Rattle.acpi_terms_text.specs.Objects.{has_segment, keeps, all_kept};
-ghost use Rattle.acpi_terms_text.specs.Objects.{numbers, numbers_of, called, predefined, own_numbers, first_numbers};
+ghost use Rattle.acpi_terms_text.specs.Objects.{args_at, aliases, callees, numbers, numbers_of, called, predefined, own_numbers, first_numbers};
 ghost use Rattle.acpi_terms_text.specs.Objects.{AreOwn, AddObjectsIn};
+ghost use Rattle.acpi_terms_text.specs.Path.{path_in};
 
-use crate::path::{last_segment, path_in};
+use crate::alias::{add_aliases, aliases_in};
+use crate::path::{is_path_in, last_segment, path_in};
 use acpi_read::terms::in_part::terms_in_part;
 use acpi_term::apart::{Kind, parts_of};
 use acpi_term::name_string::{Arities, NameString, name_of};
@@ -170,8 +172,8 @@ fn push_at(
     Ok(())
 }
 
-// Adds an object, if it is kept.
-fn push_object(
+/// Adds an object, if it is kept.
+pub(crate) fn push_object(
     alloc: Global,
     kept: Kept<'_>,
     scope: &[u8],
@@ -583,8 +585,29 @@ fn all_among(
     Ok(all)
 }
 
-// Returns what calls may name in the terms of a block: of its objects and those of further blocks, the methods with arguments,
-// and all whose names end as those of one of them.
+// Returns of the objects of terms and those of further blocks the methods with arguments, and all whose names end as those of one
+// of them.
+fn callees_of(alloc: Global, terms: &[Term], further: &[Object]) -> Result<Vec<Object>, AllocError>
+    ensures { IfOk result (λ all. map callee_by all.items ≡ callees (objects [] (views terms.now) ++ map callee_by further.now)) }
+{
+    match all_segments(alloc, terms, further)? {
+        Some(among) => all_among(alloc, &among, terms, further),
+        None => Ok(Vec::new(alloc)),
+    }
+}
+
+// Returns the objects of terms and those of further blocks.
+fn all_objects(alloc: Global, terms: &[Term], further: &[Object]) -> Result<Vec<Object>, AllocError>
+    ensures { IfOk result (λ all. map callee_by all.items ≡ objects [] (views terms.now) ++ map callee_by further.now) }
+{
+    let mut all = Vec::new(alloc);
+    push_terms(alloc, Kept::All, &[], terms, &mut all)?;
+    push_copies(alloc, Kept::All, further, &mut all)?;
+    Ok(all)
+}
+
+// Returns what calls may name in the terms of a block: of its objects, those of further blocks and those of its aliases, the
+// methods with arguments, and all whose names end as those of one of them.
 pub(crate) fn all_callees(
     alloc: Global,
     terms: &[Term],
@@ -592,10 +615,25 @@ pub(crate) fn all_callees(
 ) -> Result<Vec<Object>, AllocError>
     ensures { IfOk result (λ all. map callee_by all.items ≡ all_callees (views terms.now) (map callee_by further.now)) }
 {
-    match all_segments(alloc, terms, further)? {
-        Some(among) => all_among(alloc, &among, terms, further),
-        None => Ok(Vec::new(alloc)),
+    let aliases = aliases_in(alloc, terms)?;
+    if aliases.is_empty() {
+        return callees_of(alloc, terms, further);
     }
+    let mut all = all_objects(alloc, terms, further)?;
+    add_aliases(alloc, &aliases, &mut all)?;
+    callees_of(alloc, &[], &all)
+}
+
+/// Returns the number of arguments of the first object that is at the path of a name in a scope.
+pub(crate) fn args_at(scope: &[u8], name: &[u8], objects: &[Object]) -> Option<u8>
+    ensures { result ≡ args_at (path_in scope.now name.now) (map callee_by objects.now) }
+{
+    'objects: for object in objects {
+        if is_path_in(scope, name, &object.path) {
+            return Some(object.args);
+        }
+    }
+    None
 }
 
 // ---- numbers of arguments
@@ -666,7 +704,8 @@ pub(crate) fn own_numbers(
 }
 
 /// Adds the objects of a further definition block, by which it and others have the same namespace (ACPI 6.5, 5.3). `bytes` are
-/// its terms, without the header. The objects are those of the terms that can be read with the stated numbers and that of `_OSI`.
+/// its terms, without the header. The objects are those of the terms that can be read with the stated numbers and that of `_OSI`,
+/// and then those of the aliases in them.
 pub fn add_objects_in(
     alloc: Global,
     bytes: &[u8],
@@ -678,6 +717,8 @@ pub fn add_objects_in(
     let first = first_numbers(alloc, stated)?;
     let terms = terms_in_part(bytes, &first)?;
     push_terms(alloc, Kept::All, &[], &terms, all)?;
+    let aliases = aliases_in(alloc, &terms)?;
+    add_aliases(alloc, &aliases, all)?;
     Ok(())
 }
 
@@ -685,8 +726,9 @@ pub fn add_objects_in(
 /// declares as external, those of the objects of further blocks, and that of `_OSI`, which the operating system has (ACPI 6.5,
 /// 5.7.2). `bytes` are its terms, without the header. A method adds its path from the root, and the path without the root from
 /// each of its segments on, as calls may name it. So does another object whose name ends as that of a method with arguments; its
-/// number is 0. A name that is stated keeps its number, and a name of several objects has the least of their numbers. The block's
-/// objects are those of the terms that can be read with the stated numbers and that of `_OSI`.
+/// number is 0. An alias takes as many arguments as its object. A name that is stated keeps its number, and a name of several
+/// objects has the least of their numbers. The block's objects are those of the terms that can be read with the stated numbers
+/// and that of `_OSI`.
 pub fn own_arities(
     alloc: Global,
     bytes: &[u8],

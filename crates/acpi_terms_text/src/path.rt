@@ -8,7 +8,7 @@ use acpi_read::report::words::segments_of;
 use acpi_term::name_string::NameString;
 use std::alloc::{AllocError, Global};
 
-/// Returns the path of the scope in which an object is, or of the scope around a scope. That of the root is its own.
+/// Returns the path of the scope in which an object is, or of the scope around a scope. The parent of the root is the root.
 pub fn parent(path: &[u8]) -> &[u8]
     ensures { result.now ≡ parent path.now }
 {

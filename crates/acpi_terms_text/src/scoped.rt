@@ -10,15 +10,15 @@ ghost use Rattle.acpi_terms_text.specs.Objects.{as_segment, callee_by, counted, 
 ghost use Rattle.acpi_terms_text.specs.Path.{parent, path_in};
 ghost use Rattle.acpi_terms_text.specs.Scoped.{here, made_in, near, nearest, may_name, any, have_name, numbers_in};
 ghost use Rattle.acpi_terms_text.specs.Scoped.{numbers_for};
-ghost use Rattle.acpi_terms_text.specs.Scoped.{AreParents, below, all_below, all_relative, is_relative, args_at, has_other};
+ghost use Rattle.acpi_terms_text.specs.Scoped.{AreParents, below, all_below, all_relative, is_relative, has_other};
 ghost use Rattle.acpi_terms_text.specs.Scoped.{may_be_other, is_unread};
 ghost use Rattle.acpi_terms_text.specs.Scoped.{sought as sought_in, are_other};
 ghost use Rattle.acpi_terms_text.specs.Scoped.{AreReadAgain, AreKept, IsBody, AreScoped, AreInScopes};
 
 use crate::objects::{
-    Kept, Object, add_objects, add_predefined, all_callees, as_segment, push_copies,
+    Kept, Object, add_objects, add_predefined, all_callees, args_at, as_segment, push_copies,
 };
-use crate::path::{is_path_in, joined, last_segment, parent, path_in};
+use crate::path::{joined, last_segment, parent, path_in};
 use acpi_base::error::Error;
 use acpi_read::terms::standard_terms;
 use acpi_term::apart::{Kind, parts_of};
@@ -136,7 +136,7 @@ fn add_after(
     }
 }
 
-// Adds that of an object by its path after that of a scope, if it is in this scope or deeper.
+// Adds the number of an object for the rest of its path after `scope`, if the object is in this scope or deeper.
 fn add_below(
     alloc: Global,
     up: &[u8],
@@ -202,26 +202,14 @@ fn may_name(name: &[u8], kind: Kind<'_>) -> bool
     }
 }
 
-// Returns whether a name depends on the scope, and isn't searched.
+// Returns whether a name has several segments or begins with `^`, and not with `\`: it is looked for in one scope only.
 fn is_relative(name: &[u8]) -> bool
     ensures { result ≡ is_relative name.now }
 {
     name.len() > 4 && !matches!(name, [0x5c, ..])
 }
 
-// Returns the number of arguments of the first object that is at the path of a name in a scope.
-fn args_at(scope: &[u8], name: &[u8], objects: &[Object]) -> Option<u8>
-    ensures { result ≡ args_at (path_in scope.now name.now) (map callee_by objects.now) }
-{
-    'objects: for object in objects {
-        if is_path_in(scope, name, &object.path) {
-            return Some(object.args);
-        }
-    }
-    None
-}
-
-// Returns whether a name in a scope is relative to it, and that of an object with another number of arguments than in a list.
+// Returns whether a relative name is that of an object which takes another number of arguments than `own` has for the name.
 fn has_other(own: &Arities, objects: &[Object], scope: &[u8], name: &[u8]) -> bool
     ensures { result ≡ has_other own.now (map callee_by objects.now) scope.now name.now }
 {
@@ -233,7 +221,7 @@ fn has_other(own: &Arities, objects: &[Object], scope: &[u8], name: &[u8]) -> bo
         }
 }
 
-// Returns whether a term is such a name, or has bytes that aren't read.
+// Returns whether a term is a name for which `has_other` is true, or has bytes that aren't read.
 fn may_be_other(own: &Arities, objects: &[Object], scope: &[u8], kind: Kind<'_>) -> bool
     ensures { result ≡ may_be_other own.now (map callee_by objects.now) scope.now (head_of kind.entry) }
 {
@@ -284,7 +272,7 @@ fn is_sought(sought: Sought<'_>, kind: Kind<'_>) -> bool
     }
 }
 
-// Returns whether one of these terms, or of those in them, is.
+// Returns whether one of these terms, or a term inside them, is what is looked for.
 #[cycle(any)]
 pub(crate) fn any(sought: Sought<'_>, terms: &[Term]) -> bool
     ensures { result ≡ any (sought_in sought.entry) (views terms.now) }
@@ -328,7 +316,7 @@ fn names_here(scope: &[u8], body: &[Term], object: &Object) -> bool
     is_in(scope, object) && names_segment(last_segment(object.name.as_bytes()), body)
 }
 
-// Returns whether it has that of one of them.
+// Returns whether a body has the last segment of an object in this scope as a name.
 fn names_in(scope: &[u8], body: &[Term], objects: &[Object]) -> bool
     ensures { result ≡ have_name (views body.now) (made_in scope.now (map callee_by objects.now)) }
 {
@@ -340,7 +328,7 @@ fn names_in(scope: &[u8], body: &[Term], objects: &[Object]) -> bool
     false
 }
 
-// Returns the same of a scope, and of so many scopes around it.
+// Returns whether a body has the last segment of an object in this scope, or in so many scopes around it, as a name.
 #[cycle(names)]
 fn names_near(levels: usize, scope: &[u8], body: &[Term], objects: &[Object]) -> bool
     ensures { result ≡ have_name (views body.now) (near levels scope.now (map callee_by objects.now)) }

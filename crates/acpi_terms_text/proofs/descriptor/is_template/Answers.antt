@@ -9,5 +9,5 @@ items-preserved c =
     let more = c.in-Some.more.now in
     let is : c.items.rest.now ≡ tag ∷ more = search rules in
     let named : (length (name_in names (item_type tag)) == 0) ≡ false = search rules in
-    let next : c.after_item-rest.result.now ≡ drop (item_size (tag ∷ more)) c.items.rest.now = search rules in
-    test_goes_on c.args.bytes.now c.items.rest.now c.after_item-rest.result.now more tag is c.if-tag-eq121.false named next c.items.invariant
+    let next : c.from_offset-rest.result.now ≡ drop (item_size (tag ∷ more)) c.items.rest.now = search rules in
+    test_goes_on c.args.bytes.now c.items.rest.now c.from_offset-rest.result.now more tag is c.if-tag-eq121.false named next c.items.invariant

@@ -3,7 +3,7 @@ use Rattle.acpi_term.specs.Arity.{with_all}
 use Rattle.acpi_term.specs.View.{views}
 use Rattle.acpi_terms_text.specs.Objects.{callee_by, objects, segments, all_among}
 use Rattle.acpi_terms_text.proofs.Segments.{among_none}
-use Rattle.acpi_terms_text.proofs.objects.all_callees.Goals as goal
+use Rattle.acpi_terms_text.proofs.objects.callees_of.Goals as goal
 
 pub returns-in-Some : goal.returns-in-Some
 returns-in-Some c =

@@ -1,8 +1,7 @@
 use Rattle.std.proofs.Common.{◌≡◌, map, drop}
-use Rattle.acpi_terms_text.specs.Objects.{callee_by}
+use Rattle.acpi_terms_text.specs.Objects.{args_at, callee_by}
 use Rattle.acpi_terms_text.specs.Path.{path_in}
-use Rattle.acpi_terms_text.specs.Scoped.{args_at}
-use Rattle.acpi_terms_text.proofs.scoped.args_at.Given as goal
+use Rattle.acpi_terms_text.proofs.objects.args_at.Given as goal
 
 abbrev pub invariant-objects : goal.invariant-objects
 invariant-objects l =
