@@ -14,7 +14,8 @@ use Rattle.acpi_terms_text.specs.Scoped.{any}
 use Rattle.acpi_term.specs.PathText.{name_of_segments}
 use Rattle.acpi_terms_text.proofs.Relative.{one_scope_less}
 use Rattle.acpi_terms_text.proofs.Wholes.{first_false, second_false}
-use Rattle.acpi_asl.specs.Absent.{Known, finds, is_found, absent, Item, made, used, named_by, made_named, made_operand, made_units, made_items, made_around, around_items, scope_items, is_call, method_items, connection_items, other_items, left_after, own_items, items, all_items, uses_name, absent_line, known_by, line, known_after, lines, AreAdded, first_objects, absent_text, are_found, own_found, all_found}
+use Rattle.acpi_asl.specs.Namespace.{named_by}
+use Rattle.acpi_asl.specs.Absent.{Known, finds, is_found, absent, Item, made, used, made_named, made_operand, made_units, made_items, made_around, around_items, scope_items, is_call, method_items, connection_items, other_items, left_after, own_items, items, all_items, uses_name, absent_line, known_by, line, known_after, lines, AreAdded, first_objects, absent_text, are_found, own_found, all_found}
 use Rattle.std.specs.Str.{bytes_eq}
 use Rattle.acpi_asl.specs.Paths.{has}
 use Rattle.acpi_asl.specs.declared.absent.Pass.{Pass}

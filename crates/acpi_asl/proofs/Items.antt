@@ -8,7 +8,8 @@ use Rattle.acpi_asl.specs.Number.{upper_byte}
 use Rattle.acpi_asl.specs.declared.macros.Descriptor.{Descriptor}
 use Rattle.acpi_asl.specs.Content.{digits_at}
 use Rattle.acpi_asl.specs.Descriptor.{descriptors}
-use Rattle.acpi_asl.specs.Template.{comma, channels, dwords, pairs, item_size, found_in, found, is_found, is_zero_alone, is_inside, may_follow, is_template, item_text, items_text}
+use Rattle.acpi_terms_text.specs.Descriptor.{item_size}
+use Rattle.acpi_asl.specs.Template.{comma, channels, dwords, pairs, found_in, found, is_found, is_zero_alone, is_inside, may_follow, is_template, item_text, items_text}
 
 -- the descriptor of an item of the size that it states
 pub found_is : (item : List ℕ) (size : ℕ) (ds : List Descriptor) (r : Option Descriptor) → length item ≡ size → size ≡ item_size item

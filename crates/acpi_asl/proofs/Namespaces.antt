@@ -1,17 +1,13 @@
--- The texts of terms one after another, and the last of operands.
-use Rattle.std.proofs.Common.{◌≡◌, ℕ, ◌+◌, ◌<◌, ◌≤◌, Bool, true, false, List, [], ◌∷◌, ◌++◌, length, get_or, drop, Option, refl, sym, ap, ◌∙◌, append_assoc}
+-- The texts of terms one after another.
+use Rattle.std.proofs.Common.{◌≡◌, ℕ, ◌+◌, ◌<◌, ◌≤◌, Bool, true, false, List, [], ◌∷◌, ◌++◌, length, get_or, drop, refl, sym, ap, ◌∙◌, append_assoc}
 use Rattle.std.proofs.lemmas.List.{append-nil}
 use Rattle.std.specs.Prelude.{if◌then◌else◌}
 use Rattle.acpi_read.proofs.Texts.{dropped, past, after_two}
 use Rattle.acpi_term.specs.declared.term.Term.{Term}
 use Rattle.acpi_term.specs.Tree.{Head, Terms, end, term}
 use Rattle.acpi_term.specs.View.{view, views, single, IsApart}
-use Rattle.acpi_asl.specs.Namespace.{last_name, name_in, lines_of, has_inside, deeper, names}
+use Rattle.acpi_asl.specs.Namespace.{lines_of, has_inside, deeper, names}
 use Rattle.acpi_asl.specs.Objects.{objects_of, scope_in, objects}
-
-pub last_of_both : (found : Option (List ℕ)) (a b : List Term) → last_name (last_name found (views a)) (views b) ≡ last_name found (views (a ++ b))
-last_of_both found [] b = refl
-last_of_both found (t ∷ a) b = last_of_both (name_in (view t).0) a b
 
 -- A text of terms: that of each head with its children at a place, and then that of the children, if they make names. `inner` is
 -- their place.

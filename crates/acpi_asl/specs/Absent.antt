@@ -1,4 +1,4 @@
--- The names of a block for which it has no object. A compiler takes them with an External statement (ACPI 6.5, 5.3 and 19.6.44).
+-- The names of a block for which it has no object. A compiler takes them with an External statement (ACPI 6.5, 5.3 and 19.6.45).
 use Rattle.std.specs.Prelude.{◌≡◌, ℕ, zero, suc, ◌/◌, ◌==◌, ◌&&◌, ◌||◌, not, min, Bool, true, false, if◌then◌else◌, Option}
 use Rattle.std.specs.Prelude.{Some, None, List, [], ◌∷◌, ◌++◌, length, codes}
 use Rattle.acpi_term.specs.PathText.{name_of_segments}
@@ -6,10 +6,9 @@ use Rattle.acpi_term.specs.Tree.{Head, def_scope, def_device, def_method, def_po
 use Rattle.acpi_term.specs.Tree.{def_mutex, def_acquire, def_release, call, op, def_external, def_leveled_method, def_processor}
 use Rattle.acpi_term.specs.Tree.{def_thermal_zone, def_index_field, def_bank_field, Entry, named, connection, Terms, end, term}
 use Rattle.acpi_term.specs.Tree.{count}
-use Rattle.acpi_term.specs.declared.op.Op.{Op}
-use Rattle.acpi_term.specs.declared.op.Op.TheVariants as ops
-use Rattle.acpi_terms_text.specs.Objects.{inside, made_by, name_at}
+use Rattle.acpi_terms_text.specs.Objects.{inside, name_at}
 use Rattle.acpi_terms_text.specs.Path.{parent, path_in}
+use Rattle.acpi_asl.specs.Namespace.{named_by}
 use Rattle.acpi_asl.specs.Opening.{own}
 use Rattle.acpi_asl.specs.Paths.{has}
 use Rattle.acpi_asl.specs.Place.{place, next, in_braces, is_statement, new_line}
@@ -45,11 +44,6 @@ pub data Item : Type 0 where
   made : List ℕ → Item
   -- a name in a scope, of an object of this type with so many arguments
   used : List ℕ → List ℕ → ℕ → ℕ → Item
-
--- the operand that names the object which an operator makes
-abbrev pub named_by : Op → Option ℕ
-named_by ops.Alias = Some 1
-named_by o = made_by o
 
 abbrev pub made_named : List ℕ → Option (List ℕ) → List Item
 made_named scope None = []

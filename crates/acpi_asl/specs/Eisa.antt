@@ -2,21 +2,11 @@
 use Rattle.std.specs.Prelude.{ℕ, ◌+◌, ◌/◌, ◌%◌, ◌^◌, nat_le, nat_lt, ◌==◌, ◌&&◌, Bool, List, [], ◌∷◌, ◌++◌, codes}
 use Rattle.std.specs.Int.{w32, swap_bytes}
 use Rattle.acpi_asl.specs.Number.{digits_of}
-
--- a letter of an id, from 1 to 26
-abbrev pub is_letter : ℕ → Bool
-is_letter n = nat_le 1 n && nat_le n 26
-
--- Whether these 32 bits are an id: three letters at bits 26, 21 and 16, and bit 31 is clear.
-abbrev pub is_id : ℕ → Bool
-is_id n = is_letter (n / 2 ^ 26) && is_letter (n / 2 ^ 21 % 32) && is_letter (n / 2 ^ 16 % 32)
+use Rattle.acpi_terms_text.specs.Eisa.{is_id, letters}
 
 -- a number in this many bytes that is an id, with its bytes in the opposite order
 abbrev pub is_eisa : ℕ → ℕ → Bool
 is_eisa w value = w == 4 && nat_lt value (2 ^ 32) && is_id (swap_bytes w32 value)
-
-abbrev pub letters : ℕ → List ℕ
-letters n = (64 + n / 2 ^ 26) ∷ (64 + n / 2 ^ 21 % 32) ∷ (64 + n / 2 ^ 16 % 32) ∷ []
 
 -- three letters, and the digits of two bytes
 unfoldable pub id_text : ℕ → List ℕ

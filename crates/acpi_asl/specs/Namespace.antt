@@ -1,10 +1,9 @@
 -- The objects that a definition block makes when it is loaded, as lines (ACPI 6.5, 5.3 and 20.2.5).
-use Rattle.std.specs.Prelude.{ℕ, ◌+◌, ◌&&◌, ◌||◌, Bool, true, false, if◌then◌else◌, List, [], ◌∷◌, ◌++◌, Option, Some}
+use Rattle.std.specs.Prelude.{ℕ, ◌+◌, ◌&&◌, Bool, true, false, if◌then◌else◌, List, [], ◌∷◌, ◌++◌, Option, Some}
 use Rattle.std.specs.Prelude.{None, codes}
 use Rattle.std.specs.Fmt.{decimal}
-use Rattle.std.specs.Str.{bytes_eq}
 use Rattle.acpi_term.specs.Tree.{Entry, named, reserved, access_as, extended_access_as, connection, connection_buffer}
-use Rattle.acpi_term.specs.Tree.{Head, number, string, call, def_scope, def_device, def_method}
+use Rattle.acpi_term.specs.Tree.{Head, number, string, def_scope, def_device, def_method}
 use Rattle.acpi_term.specs.Tree.{def_power_res, def_field, def_op_region, def_name, def_mutex, def_buffer, def_package}
 use Rattle.acpi_term.specs.Tree.{def_var_package, def_if, def_while, def_else, op, def_external, def_leveled_method}
 use Rattle.acpi_term.specs.Tree.{def_processor, def_thermal_zone, def_roomy_package, def_index_field, def_bank_field}
@@ -15,6 +14,8 @@ use Rattle.acpi_asl.specs.Eisa.{is_eisa, eisa_text}
 use Rattle.acpi_asl.specs.Name.{segments_text, asl_name}
 use Rattle.acpi_asl.specs.Number.{number_text, string_text}
 use Rattle.acpi_asl.specs.Place.{spaces}
+use Rattle.acpi_terms_text.specs.Comment.{is_id_name}
+use Rattle.acpi_terms_text.specs.Objects.{made_by, name_at}
 
 -- ---- the line of an object
 
@@ -33,10 +34,6 @@ fields_lines d (connection_buffer w size v bytes ∷ entries) = fields_lines d e
 
 -- ---- the value of a name
 
--- whether the value of a name can be an EISA id (ACPI 6.5, 6.1.2 and 6.1.5)
-abbrev pub has_id : List ℕ → Bool
-has_id name = bytes_eq name (codes "_HID") || bytes_eq name (codes "_CID")
-
 -- a value, after a space; only that of data in one line is there
 abbrev pub value_of : Bool → Head → ℕ → List ℕ
 value_of id (number v) w = codes " " ++ (if id && is_eisa w v then eisa_text v else number_text v w)
@@ -51,31 +48,32 @@ abbrev pub value_text : Bool → Terms → List ℕ
 value_text id end = []
 value_text id (term h w children others) = value_of id h w
 
--- ---- the name that an operator makes
+-- ---- the object that an operator makes (ACPI 6.5, 20.2.5.1 and 20.2.5.2)
 
--- the word of an operator that makes a name, if it does
-abbrev pub made_by : Op → Option (List ℕ)
-made_by ops.Alias = Some (codes "Alias")
-made_by ops.Event = Some (codes "Event")
-made_by ops.CreateBitField = Some (codes "BufferField")
-made_by ops.CreateByteField = Some (codes "BufferField")
-made_by ops.CreateWordField = Some (codes "BufferField")
-made_by ops.CreateDWordField = Some (codes "BufferField")
-made_by ops.CreateQWordField = Some (codes "BufferField")
-made_by ops.CreateField = Some (codes "BufferField")
-made_by _ = None
+-- its word
+abbrev pub word_of : Op → Option (List ℕ)
+word_of ops.Alias = Some (codes "Alias")
+word_of ops.Event = Some (codes "Event")
+word_of ops.DataRegion = Some (codes "OperationRegion")
+word_of ops.CreateBitField = Some (codes "BufferField")
+word_of ops.CreateByteField = Some (codes "BufferField")
+word_of ops.CreateWordField = Some (codes "BufferField")
+word_of ops.CreateDWordField = Some (codes "BufferField")
+word_of ops.CreateQWordField = Some (codes "BufferField")
+word_of ops.CreateField = Some (codes "BufferField")
+word_of _ = None
 
--- the name of an operand, if it is one
-abbrev pub name_in : Head → Option (List ℕ)
-name_in (call name) = Some name
-name_in _ = None
+-- the place of the operand that names it
+abbrev pub named_by : Op → Option ℕ
+named_by ops.Alias = Some 1
+named_by o = made_by o
 
--- the name of the last operand
-abbrev pub last_name : Option (List ℕ) → Terms → Option (List ℕ)
-last_name found end = found
-last_name found (term h w children others) = last_name (name_in h) others
+-- the name that stands alone at a place
+abbrev pub operand_at : Option ℕ → Terms → Option (List ℕ)
+operand_at None operands = None
+operand_at (Some place) operands = name_at place operands
 
--- the line of the last operand, which such an operator names (ACPI 6.5, 20.2.5.1 and 20.2.5.2)
+-- its line
 abbrev pub made_line : ℕ → Option (List ℕ) → Option (List ℕ) → List ℕ
 made_line d (Some word) (Some name) = object_line d (asl_name name) word
 made_line d _ _ = []
@@ -92,14 +90,14 @@ lines_of d (def_power_res name level order) children = object_line d (asl_name n
 lines_of d (def_method name args s) children = object_line d (asl_name name) (codes "Method, arguments: " ++ decimal args)
 lines_of d (def_leveled_method name args s level) children =
     object_line d (asl_name name) (codes "Method, arguments: " ++ decimal args)
-lines_of d (def_name name) children = object_line d (asl_name name) (codes "Name" ++ value_text (has_id name) children)
+lines_of d (def_name name) children = object_line d (asl_name name) (codes "Name" ++ value_text (is_id_name name) children)
 lines_of d (def_op_region name space) children = object_line d (asl_name name) (codes "OperationRegion")
 lines_of d (def_field name access lock update entries) children = fields_lines d entries
 lines_of d (def_index_field index name access lock update entries) children = fields_lines d entries
 lines_of d (def_bank_field name bank access lock update entries) children = fields_lines d entries
 lines_of d (def_mutex name level) children = object_line d (asl_name name) (codes "Mutex")
 lines_of d (def_external name kind args) children = object_line d (asl_name name) (codes "External")
-lines_of d (op o) children = made_line d (made_by o) (last_name None children)
+lines_of d (op o) children = made_line d (word_of o) (operand_at (named_by o) children)
 lines_of d _ children = []
 
 -- Whether terms inside a head make names when the block is loaded: those inside an object, and statements that are then run. The

@@ -12,7 +12,8 @@ use Rattle.acpi_term.specs.Tree.{def_processor, def_thermal_zone, def_index_fiel
 use Rattle.acpi_term.specs.Tree.{Terms, end, term}
 use Rattle.acpi_asl.specs.Eisa.{is_eisa, json_eisa}
 use Rattle.acpi_asl.specs.Name.{segments_text}
-use Rattle.acpi_asl.specs.Namespace.{has_id, made_by, last_name, has_inside}
+use Rattle.acpi_asl.specs.Namespace.{word_of, named_by, operand_at, has_inside}
+use Rattle.acpi_terms_text.specs.Comment.{is_id_name}
 use Rattle.acpi_asl.specs.Number.{json_string, json_number}
 
 -- ---- the object of a name, after a comma
@@ -75,14 +76,14 @@ objects_of scope (def_thermal_zone name) children = plain_object (path_in scope 
 objects_of scope (def_power_res name level order) children = plain_object (path_in scope name) (codes "PowerResource")
 objects_of scope (def_method name args s) children = method_object (path_in scope name) args
 objects_of scope (def_leveled_method name args s level) children = method_object (path_in scope name) args
-objects_of scope (def_name name) children = name_object (path_in scope name) (value_member (has_id name) children)
+objects_of scope (def_name name) children = name_object (path_in scope name) (value_member (is_id_name name) children)
 objects_of scope (def_op_region name space) children = plain_object (path_in scope name) (codes "OperationRegion")
 objects_of scope (def_field name access lock update entries) children = field_objects scope entries
 objects_of scope (def_index_field index name access lock update entries) children = field_objects scope entries
 objects_of scope (def_bank_field name bank access lock update entries) children = field_objects scope entries
 objects_of scope (def_mutex name level) children = plain_object (path_in scope name) (codes "Mutex")
 objects_of scope (def_external name kind args) children = plain_object (path_in scope name) (codes "External")
-objects_of scope (op o) children = made_object scope (made_by o) (last_name None children)
+objects_of scope (op o) children = made_object scope (word_of o) (operand_at (named_by o) children)
 objects_of scope _ children = []
 
 -- the scope of the terms inside a head

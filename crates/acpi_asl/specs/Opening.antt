@@ -68,7 +68,7 @@ field_own name access lock update = asl_name name ++ field_rules access lock upd
 abbrev pub method_own : List ℕ → ℕ → Bool → List ℕ
 method_own name args serialized = asl_name name ++ further (decimal args) ++ further (serialize_word serialized)
 
--- a further parameter, of any type
+-- the type of a method's result, or of a parameter after the first: any type
 unfoldable pub parameter : List ℕ
 parameter = codes ", UnknownObj"
 

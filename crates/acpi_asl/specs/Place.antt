@@ -1,7 +1,6 @@
 -- Where terms stand in the text of another: in its parentheses, or in its braces.
-use Rattle.std.specs.Prelude.{ℕ, zero, suc, ◌-◌, nat_le, ◌==◌, ◌&&◌, ◌||◌, not, Bool, true, false, if◌then◌else◌, List}
+use Rattle.std.specs.Prelude.{ℕ, zero, suc, ◌-◌, nat_le, ◌==◌, ◌&&◌, not, Bool, true, false, if◌then◌else◌, List}
 use Rattle.std.specs.Prelude.{◌+◌, ◌*◌, [], ◌∷◌, ◌++◌, codes}
-use Rattle.std.specs.Str.{bytes_eq}
 use Rattle.acpi_term.specs.declared.op.Op.{Op}
 use Rattle.acpi_term.specs.declared.op.Op.TheVariants as op
 use Rattle.acpi_term.specs.Tree.{Head, number, call, def_scope, def_device}
@@ -10,6 +9,7 @@ use Rattle.acpi_term.specs.Tree.{def_buffer, def_package, def_var_package, def_i
 use Rattle.acpi_term.specs.Tree.{def_leveled_method, def_processor, def_thermal_zone, def_roomy_package, def_index_field}
 use Rattle.acpi_term.specs.Tree.{def_bank_field}
 use Rattle.acpi_term.specs.Tree.{def_fatal, match_test}
+use Rattle.acpi_terms_text.specs.Comment.{has_ids}
 use Rattle.acpi_terms_text.specs.Path.{last_segment}
 use Rattle.acpi_asl.specs.declared.place.Body.{Body}
 use Rattle.acpi_asl.specs.declared.place.Body.TheVariants.{Absent, Statements, Elements, Rows}
@@ -82,17 +82,6 @@ with_externals externals p =
       tags = p.tags;
       externals = externals;
     }
-
--- whether the value of a name is an id (ACPI 6.5, 6.1.2 and 6.1.5)
-abbrev pub is_id_name : List ℕ → Bool
-is_id_name name = bytes_eq (last_segment name) (codes "_HID") || bytes_eq (last_segment name) (codes "_CID")
-
--- whether numbers among a head's children are ids, if the head stands where they are or not
-abbrev pub has_ids : Bool → Head → Bool
-has_ids ids (def_name name) = is_id_name name
-has_ids ids def_package = ids
-has_ids ids (def_roomy_package room) = ids
-has_ids ids _ = false
 
 -- Whether a buffer of 16 bytes among a head's children is a UUID: if it is compared, as methods do with their first argument
 -- (ACPI 6.5, 6.2.11 and 9.1.1).

@@ -35,7 +35,7 @@ is_zero_first end = false
 is_zero_first (term h w children others) = is_null h w
 
 -- Whether a head with these children is the block in which a compiler writes External statements: `If (Zero)`, and these alone
--- (ACPI 6.5, 19.6.44 and 20.2.5.2). It writes the block itself.
+-- (ACPI 6.5, 19.6.45 and 20.2.5.2). It writes the block itself.
 abbrev pub is_external_block : Head → Terms → Bool
 is_external_block def_if children =
     is_zero_first children && not (is_end (after_first children)) && are_external (after_first children)

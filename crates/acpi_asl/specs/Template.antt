@@ -1,4 +1,4 @@
--- Resource templates (ACPI 6.5, 6.4 and 19.6.114): buffers whose bytes are descriptors that have macros, and the end tag.
+-- Resource templates (ACPI 6.5, 6.4 and 19.6.117): buffers whose bytes are descriptors that have macros, and the end tag.
 use Rattle.std.specs.Prelude.{ℕ, zero, suc, ◌+◌, ◌-◌, ◌*◌, ◌/◌, ◌%◌, nat_lt, ◌==◌, ◌&&◌, ◌||◌, not, Bool, true, false}
 use Rattle.std.specs.Prelude.{if◌then◌else◌, Option, Some, None, List, [], ◌∷◌, ◌++◌, length, take, slice_index_or, codes}
 use Rattle.std.specs.Fmt.{decimal}
@@ -13,6 +13,7 @@ use Rattle.acpi_asl.specs.Descriptor.{words, Row, facts, descriptors}
 use Rattle.acpi_asl.specs.Number.{upper_digit, hex, string_text}
 use Rattle.acpi_asl.specs.Place.{new_line}
 use Rattle.acpi_asl.specs.Word.{word_in}
+use Rattle.acpi_terms_text.specs.Descriptor.{item_size}
 
 -- ---- the arguments of a macro
 
@@ -83,17 +84,6 @@ tail_text tail item = if is_absent tail then [] else codes " {" ++ list_text tai
 
 abbrev pub row_text : Row → ℕ → List ℕ → List ℕ
 row_text r n item = r.macro ++ codes " (" ++ parts_text item n true r.parts ++ codes ")" ++ tail_text r.tail item
-
--- the number after the tag of a large item
-abbrev pub large_length : List ℕ → ℕ
-large_length (low ∷ high ∷ more) = low + 256 * high
-large_length _ = 0
-
--- The size of the item at the front. The tag of a small item has bit 7 clear, and its bits 0 to 2 are the number of bytes after
--- it.
-abbrev pub item_size : List ℕ → ℕ
-item_size [] = 0
-item_size (tag ∷ more) = if nat_lt tag 128 then 1 + tag % 8 else 3 + large_length more
 
 abbrev pub part_fits : List ℕ → Part → Bool
 part_fits item (parts.Word x kind) = not (length (word_in (words kind) (value_of item x)) == 0)

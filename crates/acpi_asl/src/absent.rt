@@ -1,16 +1,18 @@
-//! External statements for the names of a block for which it has no object (ACPI 6.5, 5.3 and 19.6.44).
+//! External statements for the names of a block for which it has no object (ACPI 6.5, 5.3 and 19.6.45).
 
 ghost use Rattle.std.specs.Prelude.{◌≡◌, ◌+◌, ◌/◌, ◌++◌, length, [], ◌∷◌, true, Some, map, IfOk, OnOk, string_bytes};
 ghost use Rattle.acpi_term.specs.PathText.{name_of_segments};
 ghost use Rattle.acpi_term.specs.View.{entry_view, head_of, view, views, single};
 ghost use Rattle.acpi_terms_text.specs.Path.{path_in};
 ghost use Rattle.acpi_terms_text.specs.Scoped.{any};
-ghost use Rattle.acpi_asl.specs.Absent.{finds, is_found, absent, made, used, named_by, made_operand};
+ghost use Rattle.acpi_asl.specs.Absent.{finds, is_found, absent, made, used, made_operand};
+ghost use Rattle.acpi_asl.specs.Namespace.{named_by};
 ghost use Rattle.acpi_asl.specs.Absent.{made_units, made_items, made_around, around_items, scope_items, is_call};
 ghost use Rattle.acpi_asl.specs.Absent.{method_items, connection_items, other_items, own_items, items, all_items, left_after};
 ghost use Rattle.acpi_asl.specs.Absent.{uses_name, absent_line, known_by, known_after, AreAdded, first_objects};
 ghost use Rattle.acpi_asl.specs.Absent.{are_found, own_found, all_found, absent_text};
 
+use crate::namespace::named_by;
 use crate::opening::push_own;
 use crate::paths::Paths;
 use crate::place::{Place, STATEMENTS, is_statement, next, place_of, push_line};
@@ -18,7 +20,7 @@ use acpi_term::apart::{Kind, parts_of};
 use acpi_term::name_string::NameString;
 use acpi_term::op::Op;
 use acpi_term::term::{Term, TermEntry};
-use acpi_terms_text::objects::{inner_scope, inside, made_by, name_at};
+use acpi_terms_text::objects::{inner_scope, inside, name_at};
 use acpi_terms_text::path::{joined, parent, path_in};
 use std::alloc::{AllocError, Global};
 
@@ -96,7 +98,7 @@ fn make_named(
     known.add(alloc, path)
 }
 
-// Makes that of an entry of a field known.
+// Makes the path of a field unit known, if the entry has a name.
 fn make_unit(
     alloc: Global,
     scope: &[u8],
@@ -114,7 +116,7 @@ fn make_unit(
     }
 }
 
-// Makes those of the entries of a field known.
+// Makes the paths of a field's named entries known.
 fn make_units(
     alloc: Global,
     scope: &[u8],
@@ -127,16 +129,6 @@ fn make_units(
         make_unit(alloc, scope, entry, known)?;
     }
     Ok(())
-}
-
-// Returns the place of the operand that names the object which an operator makes.
-fn named_by(op: Op) -> Option<usize>
-    ensures { result ≡ named_by op }
-{
-    match op {
-        Op::Alias => Some(1),
-        _ => made_by(op),
-    }
 }
 
 // Makes the object known that an operator with these operands makes.
@@ -281,7 +273,7 @@ fn push_used(
     push_absent(alloc, path, kind, args, known, text)
 }
 
-// The same for the connection that an entry of a field names.
+// Adds the External statement for the connection that an entry of a field names.
 fn push_connection(
     alloc: Global,
     scope: &[u8],
@@ -298,7 +290,7 @@ fn push_connection(
     }
 }
 
-// The same for those that the entries of a field name.
+// Adds External statements for the connections that the entries of a field name.
 fn push_connections(
     alloc: Global,
     scope: &[u8],
@@ -315,7 +307,7 @@ fn push_connections(
     Ok(())
 }
 
-// The same for the region of a field, and the connections of its entries.
+// Adds External statements for the region of a field and for the connections of its entries.
 #[tactic(auto, using(crate::proofs::Absents::one_added))]
 fn push_field(
     alloc: Global,
@@ -333,7 +325,7 @@ fn push_field(
     Ok(())
 }
 
-// The same for two names, of registers or of a region and a register, and the connections of entries.
+// Adds External statements for two names, of registers or of a region and a register, and for the connections of entries.
 #[tactic(auto, using(crate::proofs::Absents::one_added))]
 fn push_registers(
     alloc: Global,
@@ -353,7 +345,7 @@ fn push_registers(
     Ok(())
 }
 
-// The same for the scope that a term opens.
+// Adds the External statement for the scope that a term opens.
 fn push_scope(
     alloc: Global,
     scope: &[u8],
@@ -377,7 +369,7 @@ fn is_call(place: Place, count: usize) -> bool
     is_statement(place) || count > 0
 }
 
-// The same for the method that a term with this many children calls.
+// Adds the External statement for the method that a term with this many children calls.
 fn push_method(
     alloc: Global,
     place: Place,
@@ -398,7 +390,7 @@ fn push_method(
     }
 }
 
-// The same for the other objects that a term names.
+// Adds External statements for the other objects that a term names.
 fn push_other(
     alloc: Global,
     scope: &[u8],
@@ -452,7 +444,7 @@ fn push_own_items(
     Ok(())
 }
 
-// The same of terms in a scope, and of those in them. The first stands in this place. Returns the place after them.
+// Goes through the terms of a scope and the terms inside them. The first is at `place`. Returns the place after the last.
 #[cycle(items)]
 fn push_items(
     alloc: Global,
@@ -528,7 +520,7 @@ fn is_connection_found(
     }
 }
 
-// Returns the same of all entries of a field, and of its region.
+// Returns whether a field's region and the connections of its entries find objects.
 fn is_field_found(
     alloc: Global,
     known: &Paths,
@@ -572,7 +564,7 @@ fn own_found(alloc: Global, known: &Paths, scope: &[u8], kind: Kind<'_>) -> Resu
     }
 }
 
-// Returns whether those that terms in a scope use do, and those that the terms in them use.
+// Returns whether all names that these terms and the terms inside them use find objects.
 #[cycle(found)]
 fn are_found(alloc: Global, known: &Paths, scope: &[u8], terms: &[Term]) -> Result<bool, AllocError>
     ensures { IfOk result (λ found. found ≡ all_found known.now scope.now (views terms.now)) }
@@ -622,7 +614,7 @@ fn uses_name(kind: Kind<'_>) -> bool
     }
 }
 
-// Returns whether one of these terms, or of those in them, does.
+// Returns whether one of these terms, or a term inside them, names an object that something else makes.
 #[cycle(uses)]
 fn use_names(terms: &[Term]) -> bool
     ensures { result ≡ any uses_name (views terms.now) }

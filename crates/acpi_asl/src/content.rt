@@ -199,7 +199,7 @@ fn holds(item: &[u8], check: Check) -> bool
     }
 }
 
-/// Whether all of these hold of an item.
+/// Whether all these checks hold of an item.
 pub fn all_hold(item: &[u8], checks: &[Check]) -> bool
     ensures { result ≡ all_hold item.now checks.now }
 {

@@ -51,7 +51,7 @@ pub struct Bits {
     pub offset: usize,
     /// The number of the lowest.
     pub shift: u8,
-    /// How many there are, or 8 for all that follow.
+    /// How many there are: 1, 2 or 3, or 8 for all bits from the lowest up to bit 7.
     pub size: u8,
 }
 
@@ -96,9 +96,9 @@ pub enum Check {
     Size(u8),
     /// There are one or more numbers of two bytes from one offset to another.
     Pairs(Offset, Offset),
-    /// There are characters from one offset to another, and one zero, at the end.
+    /// From one offset to another there are ASCII characters, and then one zero as the last byte.
     Text(Offset, Offset),
-    /// The descriptor ends at the offset, or an index of one byte is at it, and then characters, and one zero, at the end.
+    /// The descriptor ends at the offset, or an index of one byte is there, then ASCII characters, then one zero as the last byte.
     Source(Offset),
 }
 

@@ -1,46 +1,18 @@
 //! EISA ids (ACPI 6.5, 19.3.4 and 19.6.37). A function whose name begins with `push` adds to a text.
 
 ghost use Rattle.std.specs.Prelude.{◌≡◌, ◌+◌, ◌<◌, ◌^◌, ◌++◌, true, codes, OnOk, string_bytes};
-ghost use Rattle.acpi_asl.specs.Eisa.{is_letter, is_id, is_eisa, letters, id_text, eisa_text, json_eisa};
+ghost use Rattle.acpi_asl.specs.Eisa.{is_eisa, id_text, eisa_text, json_eisa};
+ghost use Rattle.acpi_terms_text.specs.Eisa.{is_id, letters};
 
 use crate::number::push_digits;
+use acpi_terms_text::eisa::{is_id, push_letters};
 use std::alloc::AllocError;
-
-fn is_letter(n: u32) -> bool
-    ensures { result ≡ is_letter n }
-{
-    (1..=26).contains(&n)
-}
-
-// Whether 32 bits are three letters and four digits.
-fn is_id(id: u32) -> bool
-    ensures { result ≡ is_id id }
-{
-    is_letter(id / 0x400_0000) && is_letter(id / 0x20_0000 % 32) && is_letter(id / 0x1_0000 % 32)
-}
 
 /// Whether a number in this many bytes is an id.
 pub fn is_eisa(width: u8, value: u64) -> bool
     ensures { result ≡ is_eisa width value }
 {
     width == 4 && value < 0x1_0000_0000 && is_id((value as u32).swap_bytes())
-}
-
-fn letter(n: u32) -> char
-    requires { is_letter n ≡ true }
-    ensures { result ≡ 64 + n }
-{
-    (64 + n) as u8 as char
-}
-
-// Adds the three letters.
-fn push_letters(id: u32, text: &mut String) -> Result<(), AllocError>
-    requires { is_id id ≡ true }
-    ensures { OnOk result (string_bytes text.new ≡ string_bytes text.old ++ letters id) }
-{
-    text.push(letter(id / 0x400_0000))?;
-    text.push(letter(id / 0x20_0000 % 32))?;
-    text.push(letter(id / 0x1_0000 % 32))
 }
 
 #[tactic(auto, unfolding(crate::specs::Eisa::id_text))]

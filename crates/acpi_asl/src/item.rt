@@ -5,7 +5,8 @@ ghost use Rattle.std.specs.Prelude.{length, take, drop, OnOk, string_bytes};
 ghost use Rattle.acpi_asl.specs.Content.{value_of, offset_of, up_to_zero, source_at};
 ghost use Rattle.acpi_asl.specs.Descriptor.{words, facts, descriptors};
 ghost use Rattle.acpi_asl.specs.Number.{hex, string_text};
-ghost use Rattle.acpi_asl.specs.Template.{tag_text, part_text, comma, parts_text, row_text, large_length, item_size};
+ghost use Rattle.acpi_asl.specs.Template.{tag_text, part_text, comma, parts_text, row_text};
+ghost use Rattle.acpi_terms_text.specs.Descriptor.{item_size};
 ghost use Rattle.acpi_asl.specs.Template.{part_fits, parts_fit, fits, found_in, found, is_found, found_text};
 ghost use Rattle.acpi_asl.specs.Word.{word_in};
 
@@ -18,6 +19,7 @@ use crate::list::{push_comma, push_tail};
 use crate::macros::{Descriptor, checks_left, descriptors, macro_opening, parts, tail};
 use crate::number::{push_hex, push_string, upper_digit};
 use crate::word::word_in;
+use acpi_terms_text::descriptor::item_size;
 use std::alloc::AllocError;
 
 // The word of bits, or an empty one.
@@ -121,28 +123,6 @@ fn push_row(
     Ok(())
 }
 
-// The number after the tag of a large item.
-fn large_length(bytes: &[u8]) -> usize
-    ensures is { result ≡ large_length bytes.now }
-    ensures small { result ≤ 65535 }
-{
-    match bytes {
-        [low, high, ..] => usize::from(*low) + 256 * usize::from(*high),
-        _ => 0,
-    }
-}
-
-/// The size of the item with a tag, before these bytes.
-pub fn item_size(tag: u8, more: &[u8]) -> usize
-    ensures { result ≡ item_size (tag ∷ more.now) }
-{
-    if tag < 128 {
-        1 + usize::from(tag % 8)
-    } else {
-        3 + large_length(more)
-    }
-}
-
 // The size of the item at the front.
 fn size_of(item: &[u8]) -> usize
     ensures { result ≡ item_size item.now }
@@ -184,7 +164,7 @@ fn fits(descriptor: Descriptor, tag: u8, item: &[u8]) -> bool
     }
 }
 
-// Where the descriptors begin that can have a tag: what is before them can't.
+// The place in the list of descriptors of the first one that can have this tag, or a place before it.
 fn start(tag: u8) -> usize
     ensures within { result ≤ 40 }
     ensures found { (item : List ℕ) → slice_index_or item 0 0 ≡ tag
@@ -276,7 +256,7 @@ fn push_found(
     }
 }
 
-/// Adds the macro of an item, if it has one. From the item on the template has n bytes.
+/// Adds the macro of an item, if it has one. If the macro needs a descriptor name, it is made from the number n.
 pub fn push_item(item: &[u8], n: usize, text: &mut String) -> Result<(), AllocError>
     ensures { OnOk result (string_bytes text.new ≡ string_bytes text.old ++ found_text (found item.now) n item.now) }
 {

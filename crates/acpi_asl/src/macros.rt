@@ -8,7 +8,8 @@ ghost use Rattle.acpi_asl.specs.Descriptor.{facts, descriptors};
 use crate::content::shifted;
 use crate::descriptor::{Bits, Braces, Check, Offset, Part, WordKind};
 
-/// The descriptors that have macros here. The buses with a number are those of revision 2.
+/// The descriptors that have macros here: those of ACPI 6.5, 6.4, but ClockInput and CSI2Bus. `I2cBus2`, `SpiBus2` and `UartBus2`
+/// are the descriptors of revision 2, which say whether the connection is shared.
 #[derive(Clone, Copy, Debug)]
 pub enum Descriptor {
     IrqNoFlags,
@@ -240,9 +241,9 @@ macro_rules! space_checks {
 
 // ---- pins
 
-// Between the pins, the names and the end, where a vendor's data would begin, there is nothing else: the pins begin after `n`
-// bytes, and the two bytes at `table` say so. So do those at `name` for the name, and those at `vendor` for the vendor's data,
-// which is empty.
+// The pins begin after `n` bytes, the controller's name follows them, and the descriptor ends after the name. The two bytes at
+// `table` are the offset of the pins, those at `name` that of the name, and those at `vendor` that of the vendor's data. There is
+// no vendor's data: its offset is the size of the descriptor, and its length, in the two bytes at `vendor` + 2, is zero.
 macro_rules! pins {
     ([$($front:expr),*] $n:literal, $table:literal, $name:literal, $vendor:literal) => {
         &[
@@ -258,7 +259,8 @@ macro_rules! pins {
     };
 }
 
-// The same for the names of a controller and of a group: from `n` on, where the two bytes at `name` say so.
+// The names of a controller and of a group begin after `n` bytes. The two bytes at `name` are the offset of the controller's
+// name, the next two that of the group's name, and the next two that of the vendor's data, which is empty.
 macro_rules! group {
     ([$($front:expr),*] $n:literal, $name:literal) => {
         &[

@@ -11,8 +11,9 @@ ghost use Rattle.acpi_asl.specs.Name.{asl_name, segments_text};
 ghost use Rattle.acpi_asl.specs.Place.{spaces};
 ghost use Rattle.acpi_asl.specs.Eisa.{is_eisa, eisa_text};
 ghost use Rattle.acpi_asl.specs.Number.{number_text};
-ghost use Rattle.acpi_asl.specs.Namespace.{object_line, fields_lines, has_id, value_of, value_text, made_by, name_in, last_name};
+ghost use Rattle.acpi_asl.specs.Namespace.{object_line, fields_lines, value_of, value_text, word_of, named_by, operand_at};
 ghost use Rattle.acpi_asl.specs.Namespace.{made_line, lines_of, has_inside, deeper, names};
+ghost use Rattle.acpi_terms_text.specs.Comment.{is_id_name};
 
 use crate::eisa::{is_eisa, push_eisa};
 use crate::name::{push_name, push_segments};
@@ -22,6 +23,8 @@ use acpi_term::apart::{Kind, parts_of};
 use acpi_term::name_string::NameString;
 use acpi_term::op::Op;
 use acpi_term::term::{Term, TermEntry};
+use acpi_terms_text::id::is_id_name;
+use acpi_terms_text::objects::{made_by, name_at};
 use std::alloc::{AllocError, Global};
 
 // ---- the line of an object
@@ -132,14 +135,6 @@ fn push_method(
 
 // ---- the value of a name
 
-/// Returns whether the value of a name can be an EISA id (ACPI 6.5, 6.1.2 and 6.1.5).
-pub(crate) fn has_id(name: &NameString) -> bool
-    ensures { result ≡ has_id name.now }
-{
-    let bytes = name.as_bytes();
-    bytes == b"_HID".as_slice() || bytes == b"_CID".as_slice()
-}
-
 fn push_number_or_id(id: bool, value: u64, width: u8, text: &mut String) -> Result<(), AllocError>
     ensures { OnOk result (string_bytes text.new ≡ string_bytes text.old
         ++ (if id && is_eisa width value then eisa_text value else number_text value width)) }
@@ -215,22 +210,23 @@ fn push_named_value(
     text: &mut String,
 ) -> Result<(), AllocError>
     ensures { OnOk result (string_bytes text.new ≡ string_bytes text.old ++ object_line depth (asl_name name.now)
-        (codes "Name" ++ value_text (has_id name.now) (views (first.now ++ others.now)))) }
+        (codes "Name" ++ value_text (is_id_name name.now) (views (first.now ++ others.now)))) }
 {
     push_front(depth, name, text)?;
-    push_name_and_value(has_id(name), first, others, text)?;
+    push_name_and_value(is_id_name(name), first, others, text)?;
     text.push_str("\n")
 }
 
-// ---- the name that an operator makes
+// ---- the object that an operator makes
 
-/// Returns the word of an operator that makes a name.
-pub(crate) fn made_by(op: Op) -> Option<&'static str>
-    ensures { option_map (λ word. word.now) result ≡ made_by op }
+/// Returns the word of the object that an operator makes.
+pub(crate) fn word_of(op: Op) -> Option<&'static str>
+    ensures { option_map (λ word. word.now) result ≡ word_of op }
 {
     match op {
         Op::Alias => Some("Alias"),
         Op::Event => Some("Event"),
+        Op::DataRegion => Some("OperationRegion"),
         Op::CreateBitField
         | Op::CreateByteField
         | Op::CreateWordField
@@ -241,32 +237,24 @@ pub(crate) fn made_by(op: Op) -> Option<&'static str>
     }
 }
 
-fn name_in(term: &Term) -> Option<&NameString>
-    ensures { option_map (λ name. name.now) result ≡ name_in (view term.now).0 }
+/// Returns the place of the operand that names the object which an operator makes.
+pub(crate) fn named_by(op: Op) -> Option<usize>
+    ensures { result ≡ named_by op }
 {
-    match parts_of(term).kind {
-        Kind::Call(name) => Some(name),
-        _ => None,
+    match op {
+        Op::Alias => Some(1),
+        _ => made_by(op),
     }
 }
 
-// Returns the name of the last of operands, or what was found before if there are none.
-fn last_name<'a>(found: Option<&'a NameString>, operands: &'a [Term]) -> Option<&'a NameString>
-    ensures { option_map (λ name. name.now) result ≡ last_name (option_map (λ name. name.now) found.entry) (views operands.now) }
+/// Returns the name of the object that an operator with operands in two lists makes.
+pub(crate) fn made_name<'a>(op: Op, first: &'a [Term], others: &'a [Term]) -> Option<&'a NameString>
+    ensures { option_map (λ name. name.now) result ≡ operand_at (named_by op) (views (first.now ++ others.now)) }
 {
-    let mut last = found;
-    'operands: for operand in operands {
-        last = name_in(operand);
+    match named_by(op) {
+        Some(place) => name_at(place, first, others),
+        None => None,
     }
-    last
-}
-
-/// Returns the name of the last of operands in two lists.
-#[tactic(auto, using(crate::proofs::Namespaces::last_of_both))]
-pub(crate) fn last_operand<'a>(first: &'a [Term], others: &'a [Term]) -> Option<&'a NameString>
-    ensures { option_map (λ name. name.now) result ≡ last_name None (views (first.now ++ others.now)) }
-{
-    last_name(last_name(None, first), others)
 }
 
 fn push_made(
@@ -313,7 +301,7 @@ fn push_lines(
         }
         Kind::Mutex(name, _) => push_object(depth, name, "Mutex", text),
         Kind::External(name, _, _) => push_object(depth, name, "External", text),
-        Kind::Op(op) => push_made(depth, made_by(op), last_operand(first, others), text),
+        Kind::Op(op) => push_made(depth, word_of(op), made_name(op, first, others), text),
         _ => Ok(()),
     }
 }

@@ -5,7 +5,7 @@ ghost use Rattle.std.specs.Prelude.{◌≡◌, ◌≤◌, ◌++◌, ◌∷◌, [
 ghost use Rattle.std.specs.Option.{option_map};
 ghost use Rattle.acpi_term.specs.View.{entry_view, head_of, view, views, single};
 ghost use Rattle.acpi_terms_text.specs.Path.{path_in};
-ghost use Rattle.acpi_asl.specs.Namespace.{has_id};
+ghost use Rattle.acpi_terms_text.specs.Comment.{is_id_name};
 ghost use Rattle.acpi_asl.specs.Objects.{path_member, kind_member, plain_object, arguments_member};
 ghost use Rattle.acpi_asl.specs.Objects.{method_object, number_or_id, value_of, value_member, name_object, field_objects};
 ghost use Rattle.acpi_asl.specs.Objects.{made_object, objects_of, scope_in, objects, without_comma, signature_member};
@@ -13,7 +13,7 @@ ghost use Rattle.acpi_asl.specs.Objects.{length_member, table_front, table_end, 
 
 use crate::eisa::{is_eisa, push_json_eisa};
 use crate::name::push_segments;
-use crate::namespace::{has_id, has_inside, last_operand, made_by};
+use crate::namespace::{has_inside, made_name, word_of};
 use crate::number::{push_decimal, push_json_number, push_json_string};
 use acpi_term::apart::{Kind, parts_of};
 use acpi_term::name_string::NameString;
@@ -233,10 +233,10 @@ fn push_name(
     text: &mut String,
 ) -> Result<(), AllocError>
     ensures { OnOk result (string_bytes text.new ≡ string_bytes text.old ++ name_object (path_in scope.now name.now)
-        (value_member (has_id name.now) (views (first.now ++ others.now)))) }
+        (value_member (is_id_name name.now) (views (first.now ++ others.now)))) }
 {
     let path = path_in(alloc, scope, name)?;
-    push_name_at(&path, has_id(name), first, others, text)
+    push_name_at(&path, is_id_name(name), first, others, text)
 }
 
 // ---- terms
@@ -285,7 +285,13 @@ fn push_own(
         }
         Kind::Mutex(name, _) => push_object(alloc, scope, name, "Mutex", text),
         Kind::External(name, _, _) => push_object(alloc, scope, name, "External", text),
-        Kind::Op(op) => push_made(alloc, scope, made_by(op), last_operand(first, others), text),
+        Kind::Op(op) => push_made(
+            alloc,
+            scope,
+            word_of(op),
+            made_name(op, first, others),
+            text,
+        ),
         _ => Ok(()),
     }
 }

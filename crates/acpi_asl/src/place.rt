@@ -2,13 +2,14 @@
 
 ghost use Rattle.std.specs.Prelude.{◌≡◌, ◌++◌, [], codes, if◌then◌else◌, IfOk, OnOk, string_bytes};
 ghost use Rattle.acpi_term.specs.View.{head_of};
-ghost use Rattle.acpi_asl.specs.Place.{is_id_name, has_ids, has_uuids, tags_by, tags, place_in, targets, place, next, has_braces};
+ghost use Rattle.acpi_asl.specs.Place.{has_uuids, tags_by, tags, place_in, targets, place, next, has_braces};
 ghost use Rattle.acpi_asl.specs.Place.{is_elements, is_statements, is_statement, is_null};
 ghost use Rattle.acpi_asl.specs.Place.{is_left_out, spaces, new_line, depth_in, opened, closed, separator, before, after};
 
 use acpi_term::apart::Kind;
 use acpi_term::name_string::NameString;
 use acpi_term::op::Op;
+use acpi_terms_text::id::has_ids;
 use acpi_terms_text::path::last_segment;
 use std::alloc::AllocError;
 
@@ -147,23 +148,6 @@ pub fn place_of(kind: Kind<'_>, count: usize) -> Place
     }
 }
 
-fn is_id_name(name: &NameString) -> bool
-    ensures { result ≡ is_id_name name.now }
-{
-    let segment = last_segment(name.as_bytes());
-    segment == b"_HID".as_slice() || segment == b"_CID".as_slice()
-}
-
-fn has_ids(ids: bool, kind: Kind<'_>) -> bool
-    ensures { result ≡ has_ids ids (head_of kind.entry) }
-{
-    match kind {
-        Kind::Name(name) => is_id_name(name),
-        Kind::Package | Kind::RoomyPackage(_) => ids,
-        _ => false,
-    }
-}
-
 fn has_uuids(kind: Kind<'_>) -> bool
     ensures { result ≡ has_uuids (head_of kind.entry) }
 {
@@ -194,7 +178,7 @@ fn tags(kind: Kind<'_>) -> u32
     }
 }
 
-/// The same, if the term stands in a place.
+/// Where the children of a term stand, if the term itself stands in a place.
 pub fn place_in(place: Place, kind: Kind<'_>, count: usize) -> Place
     ensures { result ≡ place_in place (head_of kind.entry) count }
 {
@@ -333,7 +317,7 @@ pub fn push_opened(body: Body, depth: usize, text: &mut String) -> Result<(), Al
     text.push('{')
 }
 
-/// Ends them.
+/// Ends the braces of a term, if it has any.
 pub fn push_closed(body: Body, depth: usize, text: &mut String) -> Result<(), AllocError>
     ensures { OnOk result (string_bytes text.new ≡ string_bytes text.old ++ closed body depth) }
 {

@@ -108,7 +108,7 @@ pub fn is_external_block(kind: Kind<'_>, first: &[Term], others: &[Term]) -> boo
     }
 }
 
-/// Whether a term is such a block.
+/// Whether a term is the block in which a compiler writes External statements.
 pub fn is_block(term: &Term) -> bool
     ensures { result ≡ is_external_block (view term.now).0 (view term.now).2 }
 {
@@ -230,7 +230,7 @@ fn is_uuid_buffer(place: Place, bytes: &[u8], first: &[Term], others: &[Term]) -
     place.uuids && bytes.len() == 16 && has_size(16, first, others)
 }
 
-// The same of a term.
+// Whether a term with children in two lists is, in this place, a buffer that ToUUID makes.
 fn is_uuid(place: Place, kind: Kind<'_>, first: &[Term], others: &[Term]) -> bool
     ensures { result ≡ is_uuid place (head_of kind.entry) (views (first.now ++ others.now)) }
 {

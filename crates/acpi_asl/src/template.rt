@@ -1,14 +1,16 @@
 //! Resource templates. A function whose name begins with `push` adds to a text.
 
-ghost use Rattle.std.specs.Prelude.{◌≡◌, ◌++◌, ◌∷◌, ◌&&◌, suc, false, length, take, drop, codes, OnOk, string_bytes};
+ghost use Rattle.std.specs.Prelude.{◌≡◌, ◌++◌, ◌∷◌, ◌&&◌, suc, false, length, take, codes, OnOk, string_bytes};
 ghost use Rattle.acpi_asl.specs.Place.{new_line};
-ghost use Rattle.acpi_asl.specs.Template.{item_size, found, is_found, is_zero_alone, begins_group, ends_groups};
+ghost use Rattle.acpi_asl.specs.Template.{found, is_found, is_zero_alone, begins_group, ends_groups};
 ghost use Rattle.acpi_asl.specs.Template.{is_inside, may_follow};
 ghost use Rattle.acpi_asl.specs.Template.{is_template, group_closes, group_opens, front_text, item_text};
 ghost use Rattle.acpi_asl.specs.Template.{items_text, template_text};
 
-use crate::item::{is_known, item_size, push_item};
+use crate::item::{is_known, push_item};
 use crate::place::{Body, push_closed, push_line, push_opened};
+use acpi_base::slice::from_offset;
+use acpi_terms_text::descriptor::item_size;
 use std::alloc::AllocError;
 
 fn is_zero_alone(bytes: &[u8]) -> bool
@@ -24,12 +26,6 @@ fn item(bytes: &[u8], size: usize) -> &[u8]
     ensures { result.now ≡ take size bytes.now }
 {
     &bytes[..size.min(bytes.len())]
-}
-
-fn after_item(bytes: &[u8], size: usize) -> &[u8]
-    ensures { result.now ≡ drop size bytes.now }
-{
-    &bytes[size.min(bytes.len())..]
 }
 
 // Whether the items after one with this tag are in braces.
@@ -73,7 +69,7 @@ pub fn is_template(bytes: &[u8]) -> bool
         if !goes_on(inside, *tag, rest, size) {
             return false;
         }
-        rest = after_item(rest, size);
+        rest = from_offset(size, rest);
         inside = is_inside(inside, *tag);
     }
     false
@@ -154,7 +150,7 @@ fn push_items(tags: u32, depth: usize, bytes: &[u8], text: &mut String) -> Resul
         }
         let size = item_size(*tag, more);
         push_item_line(tags, depth, inside, *tag, rest, size, text)?;
-        rest = after_item(rest, size);
+        rest = from_offset(size, rest);
         inside = is_inside(inside, *tag);
     }
     Ok(())

@@ -93,7 +93,7 @@ impl Block {
         }
     }
 
-    /// Declares an object of another block (ACPI 6.5, 20.2.5.1, DefExternal): its type (19.6.46), and the number of arguments if
+    /// Declares an object of another block (ACPI 6.5, 20.2.5.2, DefExternal): its type (19.6.45), and the number of arguments if
     /// it is a method. Its errors are those of `name`.
     pub fn external(&mut self, path: &str, kind: u8, args: u8)
         ensures { Does out_of_memory (with_external path.now kind args) self.old self.new }
@@ -321,7 +321,7 @@ impl Block {
         }
     }
 
-    /// Begins a buffer of resource descriptors that has a name, such as `_CRS` (ACPI 6.5, 6.4 and 19.6.120). The end tag is
+    /// Begins a buffer of resource descriptors that has a name, such as `_CRS` (ACPI 6.5, 6.4 and 19.6.117). The end tag is
     /// written at the end, and its checksum is 0, which means that it isn't checked. The errors are those of `scope`.
     pub fn resources(&mut self, path: &str)
         ensures { Does out_of_memory (with_resources path.now) self.old self.new }

@@ -132,7 +132,7 @@ macro_rules! faults {
             LayNoSpace 63 "the tables end after the last address"
             NoPointer 64 "no RSDP is at a multiple of 16"
             ;
-            WantsPrinting 65 "expected a character that prints"
+            WantsPrinting 65 "expected text"
             WantsSpace 66 "expected a space"
             WantsValue 67 "expected a value"
             WantsDigit 68 "expected a hexadecimal digit"

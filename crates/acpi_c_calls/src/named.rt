@@ -75,7 +75,7 @@ pub fn release(bytes: &mut [u8], state: &mut State, mutex: &[u8]) -> u32
     }
 }
 
-/// Declares an object of another block (ACPI 6.5, 20.2.5.1, DefExternal): its type (19.6.46), and the number of arguments if it
+/// Declares an object of another block (ACPI 6.5, 20.2.5.2, DefExternal): its type (19.6.45), and the number of arguments if it
 /// is a method. The faults are those of `path`.
 pub fn external(bytes: &mut [u8], state: &mut State, path: &[u8], kind: u8, arguments: u8) -> u32
     ensures { Writes (adds_named (λ name. def_external name kind arguments) (piece_of (path_of path.now)))

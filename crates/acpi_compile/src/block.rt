@@ -11,11 +11,12 @@ use crate::fault::{AslError, Why, fault, unwritten};
 use crate::node::{Node, list_of, word_node};
 use crate::note::after;
 use crate::number::decimal;
-use crate::squeeze::{begins_note, from, squeezed, word_at, word_len};
+use crate::squeeze::{begins_note, squeezed, word_at, word_len};
 use crate::stated::{first_use, last, stated};
 use crate::term::{Context, statements};
 use acpi_asl::block::{BlockText, has_terms, text_in_part, text_of_block};
 use acpi_base::sdt::Sdt;
+use acpi_base::slice::from_offset;
 use acpi_read::table::Table;
 use acpi_term::name_string::Arities;
 use acpi_term::read_error::ReadError;
@@ -169,7 +170,7 @@ fn unreadable(
     let squeezed = squeezed(alloc, text.as_bytes())?;
     let shown = noted_as(&squeezed, kept);
     let at = place_of(shown, kept);
-    if !from(at, shown).starts_with(b"/*= not read") {
+    if !from_offset(at, shown).starts_with(b"/*= not read") {
         return unlike(alloc, shown, kept, node);
     }
     let at = past_space(kept, at);
@@ -192,7 +193,7 @@ fn noted_as<'a>(shown: &'a [u8], kept: &[u8]) -> &'a [u8] {
 fn word_start(kept: &[u8], at: usize) -> usize {
     let mut start: usize = 0;
     'words: for _ in 0..kept.len() {
-        let next = start.saturating_add(word_len(from(start, kept)));
+        let next = start.saturating_add(word_len(from_offset(start, kept)));
         if next > at {
             break;
         }
@@ -225,7 +226,7 @@ fn absent_at(shown: &[u8], at: usize) -> &[u8] {
         if start > at {
             break;
         }
-        let rest = from(start, shown);
+        let rest = from_offset(start, shown);
         if let Some(rest) = after(rest, ABSENT) {
             name = word_at(0, rest);
         } else if rest.starts_with(b")") {
@@ -238,7 +239,7 @@ fn absent_at(shown: &[u8], at: usize) -> &[u8] {
 // Whether a text has this statement for a name.
 fn has_absent(kept: &[u8], name: &[u8]) -> bool {
     'characters: for start in 0..kept.len() {
-        if let Some(rest) = after(from(start, kept), ABSENT) {
+        if let Some(rest) = after(from_offset(start, kept), ABSENT) {
             if word_at(0, rest) == name {
                 return true;
             }
@@ -287,7 +288,8 @@ fn check(
     Err(unlike(alloc, noted_as(&shown, kept), kept, node)?)
 }
 
-/// Makes a text into the definition block that it is the ASL of.
+/// Makes a text into the definition block that it is the ASL of. The error `Fault` is the first place where the text isn't the ASL
+/// of a block, and what is wrong there. The error `Memory` is that memory ran out.
 pub fn compile(alloc: Global, text: &[u8]) -> Result<Vec<u8>, AslError>
     ensures { IfOk result (λ block. IsCompiled text.now block.items) }
 {

@@ -2,7 +2,8 @@
 
 use crate::fault::{AslError, Why, fault};
 use crate::node::{Node, word_node};
-use crate::squeeze::{begins_note, from, is_word};
+use crate::squeeze::{begins_note, is_word};
+use acpi_base::slice::from_offset;
 use std::alloc::Global;
 
 /// Lists are nested at most this deep: a term at the depth that the reader reads has two lists.
@@ -166,7 +167,7 @@ enum Part {
 fn begun(text: &[u8], i: usize, c: u8) -> Part {
     match c {
         b'"' => Part::Text(i),
-        b'/' if begins_note(from(i, text)) => Part::Note(i),
+        b'/' if begins_note(from_offset(i, text)) => Part::Note(i),
         _ if is_word(c) => Part::Word(i),
         _ => Part::Mark,
     }

@@ -5,13 +5,13 @@ use crate::fault::{AslError, Why, fault};
 use crate::node::{Node, list_of};
 use crate::number::hex;
 use crate::sized::{Sized, frame, number};
-use crate::squeeze::from;
 use crate::template::template;
 use acpi_aml::eisa::EISAName;
 use acpi_aml::uuid::Uuid;
 use acpi_asl::number::least_bytes;
 use acpi_base::buffer::append_value;
 use acpi_base::error::Error;
+use acpi_base::slice::from_offset;
 use acpi_term::term::Term;
 use std::alloc::Global;
 
@@ -97,7 +97,7 @@ pub fn uuid(alloc: Global, node: &Node<'_>) -> Result<Sized, AslError> {
     };
     let mut written = Vec::new(alloc);
     written_by(text, append_value(&uuid, &mut written))?;
-    whole_buffer(node, Vec::from_slice(alloc, from(4, &written))?)
+    whole_buffer(node, Vec::from_slice(alloc, from_offset(4, &written))?)
 }
 
 /// The number of an EISA id (ACPI 6.5, 19.6.37).
@@ -111,7 +111,7 @@ pub fn eisa(alloc: Global, node: &Node<'_>) -> Result<Sized, AslError> {
     let mut written = Vec::new(alloc);
     written_by(text, append_value(&id, &mut written))?;
     let mut value: u64 = 0;
-    'bytes: for byte in from(1, &written).iter().rev() {
+    'bytes: for byte in from_offset(1, &written).iter().rev() {
         value = value.wrapping_mul(256) | u64::from(*byte);
     }
     Ok(number(value, 4))
@@ -125,7 +125,7 @@ fn written_by(node: &Node<'_>, written: Result<(), Error>) -> Result<(), AslErro
     }
 }
 
-/// The buffer of a resource template (ACPI 6.5, 19.6.114).
+/// The buffer of a resource template (ACPI 6.5, 19.6.117).
 pub fn template_term(alloc: Global, node: &Node<'_>) -> Result<Sized, AslError> {
     let bytes = template(alloc, list_of(&node.body))?;
     whole_buffer(node, bytes)

@@ -29,6 +29,7 @@ pub fn external(alloc: Global, node: &Node<'_>) -> Result<Sized, AslError> {
     })
 }
 
+/// The term of a Mutex: its name and its sync level (ACPI 6.5, 19.6.88).
 pub fn mutex(alloc: Global, node: &Node<'_>) -> Result<Sized, AslError> {
     let [name, level] = list_of(&node.arguments) else {
         return Err(wrong(node));
@@ -42,6 +43,7 @@ pub fn mutex(alloc: Global, node: &Node<'_>) -> Result<Sized, AslError> {
     })
 }
 
+/// The term of an Acquire of a name, with the timeout in milliseconds (ACPI 6.5, 19.6.2).
 pub fn acquire(alloc: Global, node: &Node<'_>) -> Result<Sized, AslError> {
     let [name, timeout] = list_of(&node.arguments) else {
         return Err(wrong(node));
@@ -55,6 +57,7 @@ pub fn acquire(alloc: Global, node: &Node<'_>) -> Result<Sized, AslError> {
     })
 }
 
+/// The term of a Release of a name (ACPI 6.5, 19.6.115).
 pub fn release(alloc: Global, node: &Node<'_>) -> Result<Sized, AslError> {
     let [name] = list_of(&node.arguments) else {
         return Err(wrong(node));

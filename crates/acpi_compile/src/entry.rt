@@ -1,4 +1,4 @@
-//! The entries of fields (ACPI 6.5, 19.6.46 and 20.2.5.2).
+//! The entries of fields (ACPI 6.5, 19.6.47 and 20.2.5.2).
 
 use crate::argument::{byte_at, keyword_at};
 use crate::constant::bytes_of;

@@ -32,17 +32,17 @@ pub enum Why {
     Number,
     /// A number of one byte has another form than `0x` and two hexadecimal digits.
     OneByte,
-    /// One of two bytes has another form than `0x` and four digits.
+    /// A number of two bytes has another form than `0x` and four digits.
     TwoBytes,
-    /// One of four bytes has another form than `0x` and eight digits.
+    /// A number of four bytes has another form than `0x` and eight digits.
     FourBytes,
-    /// One of eight bytes has another form than `0x` and sixteen digits.
+    /// A number of eight bytes has another form than `0x` and sixteen digits.
     EightBytes,
     /// A count has another form than decimal digits, or is too large.
     Count,
     /// A string has another form, or more characters than its place.
     Text,
-    /// A string has another escape than two backslashes, a quotation mark after one, or `\x` and two digits.
+    /// A string has a backslash that isn't followed by a backslash, by a quotation mark, or by `x` and two hexadecimal digits.
     Escape,
     /// A UUID has another form.
     Uuid,
@@ -133,12 +133,12 @@ impl Why {
             Why::EightBytes => {
                 text.push_str("a number of eight bytes is expected: 0x and 16 digits")
             }
-            Why::Count => text.push_str(
-                "a number in decimal digits is expected, and none above its limit",
+            Why::Count => text.push_str("a decimal number is expected that isn't too large here"),
+            Why::Text => text.push_str(
+                "a string of ASCII characters is expected, and no longer than fits here",
             ),
-            Why::Text => text.push_str("a string is expected, with as many characters as fit"),
             Why::Escape => text.push_str(
-                "after a backslash, another, a quotation mark, or x and two digits are expected",
+                "a backslash is followed by a backslash, a quotation mark, or x and two digits",
             ),
             Why::Uuid => text.push_str("a UUID is expected: 8-4-4-4-12 hexadecimal digits"),
             Why::EisaId => text.push_str("an EISA id is expected: 3 letters and 4 digits"),
@@ -146,11 +146,15 @@ impl Why {
             Why::Keyword => text.push_str("another keyword is expected"),
             Why::Entry => text.push_str("not an entry of a field"),
             Why::Descriptor => text.push_str(
-                "no macro of a resource descriptor, or other arguments are expected",
+                "not a macro of a resource descriptor, or with another number of arguments",
             ),
             Why::Note => text.push_str("the note isn't known here"),
-            Why::Unread => text.push_str("bytes that aren't read make no block"),
-            Why::Unreadable => { text.push_str("no terms from here on: a call may lack arguments") }
+            Why::Unread => text.push_str(
+                "these bytes can't be read as terms, so they make no block",
+            ),
+            Why::Unreadable => {
+                text.push_str("what follows can't be read back as terms: a call may lack arguments")
+            }
             Why::TooLong => text.push_str("a length or a number is too large"),
             Why::Undeclared(name) => push_undeclared(name, text),
             Why::Otherwise(word) => push_otherwise(word, text),

@@ -1,10 +1,11 @@
 //! The text of ASL without what a compiler skips: white space and comments (ACPI 6.5, 19.2.1).
 
-ghost use Rattle.std.specs.Prelude.{◌≡◌, ◌≤◌, ◌++◌, false, length, drop, OnOk, IfOk};
+ghost use Rattle.std.specs.Prelude.{◌≡◌, ◌≤◌, ◌++◌, false, length, OnOk, IfOk};
 ghost use Rattle.acpi_compile.specs.Squeeze.{is_word, is_white, gapped, next_in_code, next_state, code_bytes, emitted};
 ghost use Rattle.acpi_compile.specs.Squeeze.{ending, unmarked, squeezed, line_of, front_len, note_len, text_len};
 ghost use Rattle.acpi_compile.specs.Squeeze.{begins_note, word_len, word_at};
 
+use acpi_base::slice::from_offset;
 use std::alloc::{AllocError, Global};
 
 /// The last character that was kept.
@@ -314,17 +315,10 @@ pub fn word_len(kept: &[u8]) -> usize
     }
 }
 
-/// Returns the bytes from one on.
-pub fn from(at: usize, bytes: &[u8]) -> &[u8]
-    ensures { result.now ≡ drop at bytes.now }
-{
-    if at < bytes.len() { &bytes[at..] } else { &[] }
-}
-
 /// Returns the word, the string or the note at a place of kept characters, or none at their end.
 pub fn word_at(at: usize, kept: &[u8]) -> &[u8]
     ensures { result.now ≡ word_at at kept.now }
 {
-    let rest = from(at, kept);
+    let rest = from_offset(at, kept);
     &rest[..word_len(rest)]
 }

@@ -1,4 +1,4 @@
-//! Resource templates (ACPI 6.5, 6.4 and 19.6.114).
+//! Resource templates (ACPI 6.5, 6.4 and 19.6.117).
 
 use crate::fault::{AslError, Why, fault};
 use crate::item::item;

@@ -600,7 +600,7 @@ impl Externals {
     }
 }
 
-// Adds the block in which a compiler has External statements, if there are any: `If (Zero)` (ACPI 6.5, 19.6.44).
+// Adds the block in which a compiler has External statements, if there are any: `If (Zero)` (ACPI 6.5, 19.6.45).
 fn flush(alloc: Global, block: Externals, list: &mut SizedList) -> Result<(), AslError> {
     let externals = block.list;
     if externals.terms.is_empty() {

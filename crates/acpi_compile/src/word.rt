@@ -6,7 +6,7 @@ use acpi_asl::word::{Keyword, operator_word, rows_of};
 use acpi_term::op::Op;
 use std::alloc::{AllocError, Global};
 
-/// Whether a word has a small letter, which names don't have.
+/// Whether a word has a small letter, which names don't have. Keywords of capitals alone, such as MEQ and IRQ, have none.
 pub fn is_keyword(word: &[u8]) -> bool {
     word.iter().any(|c| c.is_ascii_lowercase())
 }

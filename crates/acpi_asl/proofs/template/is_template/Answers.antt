@@ -7,4 +7,4 @@ items-preserved c =
     let tag = c.in-Some.tag.now in
     let more = c.in-Some.more.now in
     let is : c.items.rest.now ≡ tag ∷ more = search rules in
-    test_goes_on c.args.bytes.now c.items.rest.now c.after_item-rest.result.now more _ c.items.inside _ tag _ _ is c.if-tag-eq121.false c.item_size-size.ensures c.goes_on.ensures (search rules) c.after_item-rest.ensures c.is_inside-inside.ensures c.items.invariant
+    test_goes_on c.args.bytes.now c.items.rest.now c.from_offset-rest.result.now more _ c.items.inside _ tag _ _ is c.if-tag-eq121.false c.item_size-size.ensures c.goes_on.ensures (search rules) c.from_offset-rest.ensures c.is_inside-inside.ensures c.items.invariant
