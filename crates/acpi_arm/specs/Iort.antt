@@ -91,4 +91,5 @@ abbrev pub access_bits : List Part
 access_bits =
     flag 0x1 "Coherent Path to Memory"
     ∷ flag 0x2 "Device Attributes Cacheable and Inner Shareable"
+    ∷ flag 0x4 "CANWBS"
     ∷ []

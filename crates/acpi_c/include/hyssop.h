@@ -78,7 +78,7 @@ enum hyssop_fault {
     HYSSOP_FAULT_LAY_SHORT_FADT = 62, /* the FADT has no field X_DSDT */
     HYSSOP_FAULT_LAY_NO_SPACE = 63, /* the tables end after the last address */
     HYSSOP_FAULT_NO_POINTER = 64, /* no RSDP is at a multiple of 16 */
-    HYSSOP_FAULT_WANTS_PRINTING = 65, /* expected a character that prints */
+    HYSSOP_FAULT_WANTS_PRINTING = 65, /* expected text */
     HYSSOP_FAULT_WANTS_SPACE = 66, /* expected a space */
     HYSSOP_FAULT_WANTS_VALUE = 67, /* expected a value */
     HYSSOP_FAULT_WANTS_DIGIT = 68, /* expected a hexadecimal digit */

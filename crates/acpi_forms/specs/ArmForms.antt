@@ -8,8 +8,9 @@ use Rattle.acpi_arm.specs.IortNodes.{range_fields, reserved_memory_head_fields}
 use Rattle.acpi_arm.specs.IortSmmus.{smmu_interrupt_fields, smmu_head_fields, smmu_v3_head_fields}
 use Rattle.acpi_arm.specs.declared.gtdt.Timers.{Timers}
 use Rattle.acpi_base.specs.Address.{address_fields}
-use Rattle.acpi_base.specs.Fields.{NamedField, dword, reserved}
+use Rattle.acpi_base.specs.Fields.{NamedField, dword, preset, reserved}
 use Rattle.acpi_base.specs.FurtherWalk.{gtdt_walk, dbg2_walk, iort_walk}
+use Rattle.acpi_forms.specs.Walks.{earlier_gtdt_walk}
 use Rattle.acpi_forms.specs.Rows.{TableHas, StructureHas, StructureHasAt, EntryHas}
 use Rattle.acpi_text.specs.declared.form.TableForm.{TableForm}
 
@@ -24,6 +25,19 @@ pub record IsGtdt (form : TableForm) : Type 0 where
   pub gt_block : StructureHas gtdt_walk gt_block_head_fields form
   pub timer : EntryHas 0 "GT Block Timer Structure" gt_block_timer_fields form
   pub watchdog : StructureHas gtdt_walk generic_watchdog_fields form
+
+-- ---- GTDT before revision 3 (ACPI 6.2, 5.2.24)
+
+-- 88: the number of platform timers; 92: the offset of the first
+abbrev pub earlier_gtdt_fields : Timers × ℕ → List NamedField
+earlier_gtdt_fields t =
+    timers_fields t.0 ++ (dword "Platform Timer Count" t.1 ∷ preset dword "Platform Timer Offset" 96 ∷ [])
+
+pub record IsEarlierGtdt (form : TableForm) : Type 0 where
+  pub table : TableHas earlier_gtdt_fields form
+  pub gt_block : StructureHas earlier_gtdt_walk gt_block_head_fields form
+  pub timer : EntryHas 0 "GT Block Timer Structure" gt_block_timer_fields form
+  pub watchdog : StructureHas earlier_gtdt_walk generic_watchdog_fields form
 
 -- ---- DBG2 (Microsoft)
 

@@ -7,7 +7,7 @@ use Rattle.acpi_forms.specs.FurtherNames.{arm_errors_tables, memory_tables}
 use Rattle.acpi_forms.specs.Written.{the_bert, the_cedt, the_dbg2, the_facs, the_fadt, the_gtdt, the_header, the_hest}
 use Rattle.acpi_forms.specs.Written.{the_hmat, the_iort, the_madt, the_mcfg, the_pptt, the_rhct, the_rimt, the_rqsc}
 use Rattle.acpi_forms.specs.Written.{the_rsdp, the_slit, the_spcr, the_srat, the_tcpa, the_tpm2, the_viot, the_xsdt}
-use Rattle.acpi_forms.specs.Written.{the_hpet, the_waet, the_bgrt, the_wsmt}
+use Rattle.acpi_forms.specs.Written.{the_earlier_gtdt, the_hpet, the_waet, the_bgrt, the_wsmt}
 use Rattle.acpi_forms.specs.Name.{named_as, one_kind, only_read}
 pub use Rattle.acpi_forms.specs.Name.{Named, kinds, IsNamed}
 
@@ -222,7 +222,7 @@ gtdt_names = named_as the_gtdt "GTDT" "Generic Timer Description Table (GTDT)" g
 
 -- those of revision 1 or 2
 abbrev pub earlier_gtdt_names : Named
-earlier_gtdt_names = only_read "GTDT" "Generic Timer Description Table (GTDT)" gtdt_kinds
+earlier_gtdt_names = named_as the_earlier_gtdt "GTDT" "Generic Timer Description Table (GTDT)" gtdt_kinds
 
 abbrev pub dbg2_names : Named
 dbg2_names = named_as the_dbg2 "DBG2" "Debug Port Table 2 (DBG2)" (one_kind "Debug Device Information Structure")

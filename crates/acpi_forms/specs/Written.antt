@@ -5,7 +5,7 @@ use Rattle.acpi_forms.specs.ListForms.{IsXsdt, IsMcfg, IsMadt, IsSrat, IsCedt}
 use Rattle.acpi_forms.specs.HestForms.{IsHest, IsRqsc}
 use Rattle.acpi_forms.specs.NodeForms.{IsPptt, IsRhct, IsViot, IsRimt}
 use Rattle.acpi_forms.specs.MatrixForms.{IsHmat, IsSlit}
-use Rattle.acpi_forms.specs.ArmForms.{IsGtdt, IsDbg2, IsIort}
+use Rattle.acpi_forms.specs.ArmForms.{IsGtdt, IsEarlierGtdt, IsDbg2, IsIort}
 use Rattle.acpi_text.specs.declared.form.TableForm.{TableForm}
 
 -- What library calls write of a table: nothing, its header alone, or all of it, as this record or table.
@@ -33,6 +33,7 @@ pub data Written : Type 0 where
   the_hmat : Written
   the_slit : Written
   the_gtdt : Written
+  the_earlier_gtdt : Written
   the_dbg2 : Written
   the_iort : Written
   the_hpet : Written
@@ -65,6 +66,7 @@ HasFields the_rimt form = IsRimt form
 HasFields the_hmat form = IsHmat form
 HasFields the_slit form = IsSlit form
 HasFields the_gtdt form = IsGtdt form
+HasFields the_earlier_gtdt form = IsEarlierGtdt form
 HasFields the_dbg2 form = IsDbg2 form
 HasFields the_iort form = IsIort form
 HasFields the_hpet form = IsHpet form

@@ -1,6 +1,6 @@
 //! The form and the walk of a table by its bytes, and by its text. Three signatures have two layouts.
 
-ghost use Rattle.std.specs.Prelude.{◌≡◌, drop};
+ghost use Rattle.std.specs.Prelude.{◌≡◌};
 ghost use Rattle.acpi_forms.specs.Layout.{is_specified_iommu, is_specified_root_complex, is_specified_platform};
 ghost use Rattle.acpi_forms.specs.Layout.{is_specified_node};
 ghost use Rattle.acpi_forms.specs.Layout.{is_earlier_gtdt, WrittenAreUsual};
@@ -15,6 +15,7 @@ use crate::form::form_of;
 use crate::further::pmtt::earlier_pmtt_form;
 use crate::further::rimt::specified_rimt_form;
 use acpi_base::further_walk::table_walk_of;
+use acpi_base::slice::from_offset;
 use acpi_base::walk::{Place, Sizes, Walk};
 use acpi_make::fault::Fault;
 use acpi_make::item::Item;
@@ -33,17 +34,6 @@ pub enum Layout {
     EarlierPmtt,
     /// That of a GTDT before revision 3, whose timers may begin at 96.
     EarlierGtdt,
-}
-
-// Returns the bytes from an offset on.
-fn from_offset(offset: usize, bytes: &[u8]) -> &[u8]
-    ensures { result.now ≡ drop offset bytes.now }
-{
-    if offset < bytes.len() {
-        &bytes[offset..]
-    } else {
-        &[]
-    }
 }
 
 // Returns whether an IOMMU has the layout of the specification, in which its wires begin at 40. In the profile they begin at 32,

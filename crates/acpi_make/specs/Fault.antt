@@ -80,7 +80,7 @@ column_at place text = column_after 1 (before place text)
 -- ---- what has to stand there
 
 abbrev pub words : Wanted → List ℕ
-words wanted.Printing = codes "a character that prints"
+words wanted.Printing = codes "text"
 words wanted.Space = codes "a space"
 words wanted.Value = codes "a value"
 words wanted.Digit = codes "a hexadecimal digit"

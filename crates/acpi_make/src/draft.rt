@@ -23,6 +23,7 @@ use crate::heading::structure_form;
 use crate::item::{Cell, Item};
 use crate::text::{after_offset, are_white, part_at};
 use crate::value::value_of;
+use acpi_base::slice::from_offset;
 use acpi_base::walk::Place;
 use acpi_text::form::{Inner, Part, StructureForm, TableForm};
 use acpi_text::piece::{inner_of, parts_of};
@@ -227,11 +228,7 @@ impl Draft {
     fn cells_here(&self) -> &[Cell]
         ensures { result.now ≡ drop self.now.start self.now.cells.items }
     {
-        if self.start < self.cells.len() {
-            &self.cells[self.start..]
-        } else {
-            &[]
-        }
+        from_offset(self.start, &self.cells)
     }
 
     // Returns the form of the structure that the text is in.

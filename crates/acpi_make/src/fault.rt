@@ -120,7 +120,7 @@ impl Wanted {
         ensures { result.now ≡ words self }
     {
         match self {
-            Wanted::Printing => "a character that prints",
+            Wanted::Printing => "text",
             Wanted::Space => "a space",
             Wanted::Value => "a value",
             Wanted::Digit => "a hexadecimal digit",

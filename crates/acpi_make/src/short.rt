@@ -16,6 +16,7 @@ use crate::item::Cell;
 use crate::own::next_start;
 use crate::text::part_at;
 use acpi_base::row::Row;
+use acpi_base::slice::from_offset;
 use acpi_base::walk::{Place, Sizes, Walk};
 use acpi_text::form::{Part, StructureForm};
 use acpi_text::part::between;
@@ -94,17 +95,6 @@ fn any_left(width: usize, cells: &[Cell]) -> bool
         left -= 1;
     }
     false
-}
-
-// Returns the bytes from an offset on.
-fn from_offset(offset: usize, cells: &[Cell]) -> &[Cell]
-    ensures { result.now ≡ drop offset cells.now }
-{
-    if offset < cells.len() {
-        &cells[offset..]
-    } else {
-        &[]
-    }
 }
 
 // Returns the place of the length of a structure.

@@ -26,6 +26,7 @@ with_feature bit info = record { number = bit_or info.number bit }
 abbrev pub info_bits : List Part
 info_bits =
     flag 0x1 "EFRSup"
+    ∷ flag 0x2 "DmaRemapSup"
     ∷ part 0xe0 0x20 "GVASize"
     ∷ part 0x7f00 0x100 "PASize"
     ∷ part 0x3f8000 0x8000 "VASize"

@@ -148,6 +148,7 @@ pub const IVRS_FIXED: [Row; 2] = [
         4,
         &[
             Bits::Flag(0x1, "EFRSup"),
+            Bits::Flag(0x2, "DmaRemapSup"),
             Bits::Number(0xe0, 0x20, "GVASize"),
             Bits::Number(0x7f00, 0x100, "PASize"),
             Bits::Number(0x3f_8000, 0x8000, "VASize"),

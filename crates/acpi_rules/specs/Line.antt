@@ -70,11 +70,20 @@ reserved_text n = codes ": " ++ decimal n ++ codes " is reserved"
 abbrev pub one_text : ℕ → List ℕ
 one_text n = codes " has to be " ++ decimal n
 
+-- the least number that is allowed
+abbrev pub least_text : ℕ → List ℕ
+least_text n = codes " has to be at least " ++ decimal n
+
 -- the numbers that are allowed
 abbrev pub range_text : ℕ → ℕ → List ℕ
 range_text least most =
     if least == most then one_text least
-    else codes " has to be from " ++ decimal least ++ codes " to " ++ decimal most
+    else (if most == 0xffffffffffffffff then least_text least
+    else codes " has to be from " ++ decimal least ++ codes " to " ++ decimal most)
+
+-- that a number of entries doesn't fit this many bytes
+abbrev pub room_text : ℕ → List ℕ
+room_text room = codes " doesn't fit the " ++ decimal room ++ codes " bytes that are there"
 
 -- what a finding on two fields says of the bytes of its field
 abbrev pub pair_text : Rule → ℕ → ℕ → List ℕ → List ℕ
@@ -89,7 +98,7 @@ pair_text rule number most other = range_text number most
 abbrev pub own_text : ℕ → List ℕ
 own_text n = codes ": " ++ decimal n
 
--- what stands before a number that isn't greater
+-- the words between the number of a field and the name of the limit that it reaches
 unfoldable pub below_text : List ℕ
 below_text = codes " isn't below the "
 
@@ -116,9 +125,9 @@ relates_text Overlap number most other =
     codes " up to " ++ label other ++ codes ": also at " ++ decimal number
 relates_text Disjoint number most other =
     codes " with " ++ label other ++ codes ": also at " ++ decimal number
-relates_text Count number most other = codes " in " ++ decimal most ++ codes " bytes"
+relates_text Count number most other = room_text most
 relates_text Multiple number most other = codes " isn't n * " ++ decimal number
-relates_text Reference number most other = codes " isn't the " ++ label other ++ codes " of such a structure"
+relates_text Reference number most other = codes " isn't the " ++ label other ++ codes " of a structure to which it may refer"
 relates_text Cycle number most other = codes " leads to a circle"
 relates_text Present number most other = absent_text other
 relates_text Defined number most other = codes " isn't any " ++ label other

@@ -42,6 +42,7 @@ allowed_numbers =
     ∷ allow "TPM2" 0 "Start Method" 3 5
     ∷ allow "TPM2" 0 "Start Method" 9 11
     ∷ allow "TPM2" 0 "Start Method" 13 13
+    ∷ allow "TPM2" 0 "Start Method" 15 15
     ∷ []
 
 -- a range that holds in all tables of a signature
@@ -323,6 +324,9 @@ bounded =
     ∷ rule "FACP" Whole (Not (DWord 248) 0xffffffff 0) (spot 244 1 "Address Space ID") (between 0 2) "ACPI 6.5, 5.2.9"
     ∷ rule "FACP" Whole (Not (DWord 248) 0xffffffff 0) (spot 245 1 "Register Bit Width") (between 8 8) "ACPI 6.5, 5.2.9"
     ∷ rule "FACP" Whole (Not (DWord 248) 0xffffffff 0) (spot 246 1 "Register Bit Offset") (between 0 0) "ACPI 6.5, 5.2.9"
+    ∷ rule "FACP" Whole (Not (DWord 260) 0xffffffff 0) (spot 256 1 "Address Space ID") (between 0 2) "ACPI 6.5, 5.2.9"
+    ∷ rule "FACP" Whole (Not (DWord 260) 0xffffffff 0) (spot 257 1 "Register Bit Width") (between 8 8) "ACPI 6.5, 5.2.9"
+    ∷ rule "FACP" Whole (Not (DWord 260) 0xffffffff 0) (spot 258 1 "Register Bit Offset") (between 0 0) "ACPI 6.5, 5.2.9"
     ∷ rule "ECDT" Whole Always (spot 36 1 "Address Space ID") (between 0 1) "ACPI 6.5, 5.2.15"
     ∷ rule "ECDT" Whole Always (spot 48 1 "Address Space ID") (between 0 1) "ACPI 6.5, 5.2.15"
     ∷ rule "HPET" Whole Always (spot 40 1 "Address Space ID") (between 0 1) "IA-PC HPET 1.0a, 3.2.4"

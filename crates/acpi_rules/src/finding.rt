@@ -11,7 +11,7 @@ pub enum Rule {
     ReservedValue,
     /// A structure of a type that has one length has this length. The number is this length.
     StructureLength,
-    /// A number is in a range: not below the one of the finding, and not above the other.
+    /// A number is in a range. The number of the finding is the least that is allowed, and `most` the greatest.
     Range,
     /// No two parts of a table have the same number in a field. The number is the offset of the first of them.
     Unique,
@@ -67,7 +67,8 @@ pub struct Finding<'a> {
     pub bytes: &'a [u8],
     /// The number of which the rule speaks, or 0 if it speaks of none.
     pub number: u64,
-    /// The greatest number that is allowed, or 0 if the rule isn't on a range.
+    /// For a range or a distance, the greatest number that is allowed. For `Count`, how many bytes the part has. For `Below`, the
+    /// number in the field. For any other rule, 0.
     pub most: u64,
     /// The other field of which the rule speaks, or nothing if it speaks of one alone. A field of another table is followed by
     /// the signature. Of a part that isn't there, it says what it is.

@@ -13,7 +13,7 @@ use acpi_base::walk::Place;
 use acpi_text::part::number_at;
 use std::alloc::AllocError;
 
-/// A range of numbers in a field of tables. The rule holds if some bits of the table are a number.
+/// A range of numbers in a field. The rule is only for tables in which the bits `mask` at `place` are the number `is`.
 #[derive(Clone, Copy, Debug)]
 pub struct Limit {
     /// The signature of the tables.
@@ -28,9 +28,9 @@ pub struct Limit {
     pub to: u64,
     /// Where in the table the bits stand on which the rule depends.
     pub place: Place,
-    /// Their mask.
+    /// The mask of these bits.
     pub mask: usize,
-    /// Their number.
+    /// The number that these bits are in a table for which the rule is.
     pub is: usize,
     /// The section of ACPI 6.5 that has the rule, or the name of another standard.
     pub section: &'static str,

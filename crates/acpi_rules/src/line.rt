@@ -103,6 +103,14 @@ fn push_one(number: u64, text: &mut String) -> Result<(), AllocError>
     text.push_str(Buffer::new().format(number))
 }
 
+// Adds the least number that is allowed.
+fn push_least(number: u64, text: &mut String) -> Result<(), AllocError>
+    ensures { OnOk result (string_bytes text.new ≡ string_bytes text.old ++ least_text number) }
+{
+    text.push_str(" has to be at least ")?;
+    text.push_str(Buffer::new().format(number))
+}
+
 // Adds the numbers that are allowed.
 fn push_range(least: u64, most: u64, text: &mut String) -> Result<(), AllocError>
     ensures { OnOk result (string_bytes text.new ≡ string_bytes text.old ++ range_text least most) }
@@ -110,10 +118,22 @@ fn push_range(least: u64, most: u64, text: &mut String) -> Result<(), AllocError
     if least == most {
         return push_one(least, text);
     }
+    if most == u64::MAX {
+        return push_least(least, text);
+    }
     text.push_str(" has to be from ")?;
     text.push_str(Buffer::new().format(least))?;
     text.push_str(" to ")?;
     text.push_str(Buffer::new().format(most))
+}
+
+// Adds that a number of entries doesn't fit this many bytes.
+fn push_room(room: u64, text: &mut String) -> Result<(), AllocError>
+    ensures { OnOk result (string_bytes text.new ≡ string_bytes text.old ++ room_text room) }
+{
+    text.push_str(" doesn't fit the ")?;
+    text.push_str(Buffer::new().format(room))?;
+    text.push_str(" bytes that are there")
 }
 
 // Adds that a number is reserved.
@@ -175,7 +195,7 @@ fn push_own(number: u64, text: &mut String) -> Result<(), AllocError>
     text.push_str(Buffer::new().format(number))
 }
 
-// Adds what stands before a number that isn't greater.
+// Adds the words between the number of a field and the name of the limit that it reaches.
 #[tactic(auto, unfolding(crate::specs::Line::below_text))]
 fn push_below(text: &mut String) -> Result<(), AllocError>
     ensures { OnOk result (string_bytes text.new ≡ string_bytes text.old ++ below_text) }
@@ -245,11 +265,7 @@ fn push_relates(
             text.push_str(": also at ")?;
             text.push_str(Buffer::new().format(number))
         }
-        Rule::Count => {
-            text.push_str(" in ")?;
-            text.push_str(Buffer::new().format(most))?;
-            text.push_str(" bytes")
-        }
+        Rule::Count => push_room(most, text),
         Rule::Multiple => {
             text.push_str(" isn't n * ")?;
             text.push_str(Buffer::new().format(number))
@@ -257,7 +273,7 @@ fn push_relates(
         Rule::Reference => {
             text.push_str(" isn't the ")?;
             push_label(other, text)?;
-            text.push_str(" of such a structure")
+            text.push_str(" of a structure to which it may refer")
         }
         Rule::Cycle => text.push_str(" leads to a circle"),
         Rule::Present => push_absent(other, text),

@@ -84,13 +84,13 @@ const UIDS: [Column; 6] = [
     column!("APIC", Kind(24), Always, spot!(16, 4, "ACPI Processor UID")),
 ];
 
-// Those of processors with a GIC (5.2.12.14).
+// The ACPI Processor UIDs of GICCs (ACPI 6.5, 5.2.12.14).
 #[rattlefmt::skip]
 const GICCS: [Column; 1] = [
     column!("APIC", Kind(11), Always, spot!(8, 4, "ACPI Processor UID")),
 ];
 
-// Those of RISC-V harts (ACPI 6.6, 5.2.12).
+// The ACPI Processor UIDs of RISC-V harts (ACPI 6.6, 5.2.12).
 #[rattlefmt::skip]
 const RINTCS: [Column; 1] = [
     column!("APIC", Kind(24), Always, spot!(16, 4, "ACPI Processor UID")),

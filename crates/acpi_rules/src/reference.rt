@@ -54,7 +54,7 @@ fn push_numbers(items: &[Item<'_>], numbers: &mut Vec<u64>) -> Result<(), AllocE
     Ok(())
 }
 
-// Adds the offsets of those parts of a table that are one of these.
+// Adds the offsets of the parts of a table that belong to a group.
 fn push_among(
     alloc: Global,
     walk: Option<Walk>,
@@ -68,7 +68,7 @@ fn push_among(
     push_offsets(&items, numbers)
 }
 
-// Adds the offsets of those that are one of any of these.
+// Adds the offsets of the parts of a table that belong to any of several groups.
 fn push_all_among(
     alloc: Global,
     walk: Option<Walk>,

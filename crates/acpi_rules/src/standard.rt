@@ -30,12 +30,13 @@ use std::alloc::{AllocError, Global};
 
 // Numbers that a form has no name for, and that aren't reserved.
 #[rattlefmt::skip]
-const ALLOWED: [Allowed; 12] = [
+const ALLOWED: [Allowed; 13] = [
     // Address spaces of an OEM (ACPI 6.5, 5.2.3.2).
     Allowed { table: "", offset: 0, name: "Address Space ID", from: 192, to: 255 },
     // INT_MODEL of ACPI 1.0 (5.2.9).
     Allowed { table: "FACP", offset: 44, name: "Reserved", from: 1, to: 1 },
-    // The structure of a GICC in ACPI 5.0 to 6.4, and that of a Multiprocessor Wakeup in ACPI 6.6.
+    // The lengths of a GICC in ACPI 5.0 to 6.4, and of a Multiprocessor Wakeup in ACPI 6.6. A row has no type of structure, so
+    // each structure of a MADT may have these lengths.
     Allowed { table: "APIC", offset: 0, name: "Length", from: 40, to: 40 },
     Allowed { table: "APIC", offset: 0, name: "Length", from: 76, to: 76 },
     Allowed { table: "APIC", offset: 0, name: "Length", from: 80, to: 80 },
@@ -50,6 +51,7 @@ const ALLOWED: [Allowed; 12] = [
     Allowed { table: "TPM2", offset: 0, name: "Start Method", from: 3, to: 5 },
     Allowed { table: "TPM2", offset: 0, name: "Start Method", from: 9, to: 11 },
     Allowed { table: "TPM2", offset: 0, name: "Start Method", from: 13, to: 13 },
+    Allowed { table: "TPM2", offset: 0, name: "Start Method", from: 15, to: 15 },
 ];
 
 // The ranges of numbers in the fields of tables.
@@ -366,7 +368,8 @@ const PAIRED: [Relation; 19] = [
         "ACPI 6.5, 5.2.9"),
     rule!("FACP", Whole, Is(Byte(232), 255, 1), spot!(84, 4, "GPE1_BLK"), Agrees(spot!(236, 8, "X_GPE1_BLK")),
         "ACPI 6.5, 5.2.9"),
-    // Fields that aren't zero, unless the flag HW_REDUCED_ACPI is set.
+    // Unless the flag HW_REDUCED_ACPI is set, PM1a_EVT_BLK and PM1a_CNT_BLK have an address, a command needs SMI_CMD, and a block
+    // needs its length.
     rule!("FACP", Whole, Is(DWord(112), 0x10_0000, 0), spot!(56, 4, "PM1a_EVT_BLK"), Needed(spot!(152, 8, "X_PM1a_EVT_BLK")),
         "ACPI 6.5, 5.2.9"),
     rule!("FACP", Whole, Is(DWord(112), 0x10_0000, 0), spot!(64, 4, "PM1a_CNT_BLK"), Needed(spot!(176, 8, "X_PM1a_CNT_BLK")),
@@ -406,9 +409,9 @@ const ALIGNED: [Relation; 12] = [
     rule!("MCFG", Each, Always, spot!(0, 8, "Base Address"), Multiple(0x10_0000), "PCI Firmware 3.3, 4.1.2"),
 ];
 
-// Fields whose range depends on other fields, or on the type of a structure.
+// Ranges of fields at an offset of a table or of a structure. Some depend on other fields.
 #[rattlefmt::skip]
-const BOUNDED: [Relation; 25] = [
+const BOUNDED: [Relation; 28] = [
     rule!("FACP", Whole, Is(DWord(112), 1024, 1024), spot!(116, 1, "Address Space ID"), Between(0, 2), "ACPI 6.5, 5.2.9"),
     rule!("FACP", Whole, Is(DWord(112), 1024, 1024), spot!(117, 1, "Register Bit Width"), Between(8, 8), "ACPI 6.5, 5.2.9"),
     rule!("FACP", Whole, Is(DWord(112), 1024, 1024), spot!(118, 1, "Register Bit Offset"), Between(0, 0), "ACPI 6.5, 5.2.9"),
@@ -416,6 +419,11 @@ const BOUNDED: [Relation; 25] = [
     rule!("FACP", Whole, Not(DWord(248), 0xffff_ffff, 0), spot!(245, 1, "Register Bit Width"), Between(8, 8),
         "ACPI 6.5, 5.2.9"),
     rule!("FACP", Whole, Not(DWord(248), 0xffff_ffff, 0), spot!(246, 1, "Register Bit Offset"), Between(0, 0),
+        "ACPI 6.5, 5.2.9"),
+    rule!("FACP", Whole, Not(DWord(260), 0xffff_ffff, 0), spot!(256, 1, "Address Space ID"), Between(0, 2), "ACPI 6.5, 5.2.9"),
+    rule!("FACP", Whole, Not(DWord(260), 0xffff_ffff, 0), spot!(257, 1, "Register Bit Width"), Between(8, 8),
+        "ACPI 6.5, 5.2.9"),
+    rule!("FACP", Whole, Not(DWord(260), 0xffff_ffff, 0), spot!(258, 1, "Register Bit Offset"), Between(0, 0),
         "ACPI 6.5, 5.2.9"),
     rule!("ECDT", Whole, Always, spot!(36, 1, "Address Space ID"), Between(0, 1), "ACPI 6.5, 5.2.15"),
     rule!("ECDT", Whole, Always, spot!(48, 1, "Address Space ID"), Between(0, 1), "ACPI 6.5, 5.2.15"),

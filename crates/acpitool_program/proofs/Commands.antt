@@ -3,7 +3,7 @@ use Rattle.std.proofs.Common.{◌≡◌, ◌⊎◌, ℕ, Bool, true, false, map,
 use Rattle.std.proofs.lemmas.List.{length-map}
 use Rattle.acpitool_program.proofs.Rests.{same_addresses, same_rest}
 use Rattle.acpitool_program.proofs.Verbs.{heads, tails, same_verb, no_version, no_help, asks_no_help}
-use Rattle.acpitool_program.specs.Command.{begins_with, style_of, after_option, files_in, forces, unforced, AreImage, AreUnpack, AreLay, IsRest, AreAfter, IsHelp, BeginsWithHelp, AsksForHelp, Asks}
+use Rattle.acpitool_program.specs.Command.{begins_with, style_of, after_option, file_count, forces, unforced, AreImage, AreUnpack, AreLay, IsRest, AreAfter, IsHelp, BeginsWithHelp, AsksForHelp, Asks}
 use Rattle.acpitool_program.specs.Laws.{Content, option_if, style_option, rsdp_if, content, AskForOne}
 use Rattle.acpitool_program.specs.declared.command.Command.{Command}
 use Rattle.acpitool_program.specs.declared.command.Command.TheVariants.{Help, Version, Show, Check, Image, Make, Template}
@@ -39,7 +39,7 @@ same_images m n file other base from same (inr x) (inr y) =
 abbrev IsOf : Verb → List (List ℕ) → Content → Type 0
 IsOf verbs.Show more k =
     ((begins_with (codes "--json") more ≡ false) × (files : List (List ℕ)) × (numbers : List (List ℕ))
-    × (after_option verbs.Show more ≡ files ++ numbers) × (length files ≡ files_in (after_option verbs.Show more))
+    × (after_option verbs.Show more ≡ files ++ numbers) × (length files ≡ file_count (after_option verbs.Show more))
     × (k ≡ (codes "show", files, numbers, 0, style_option (style_of more))))
     ⊎ ((begins_with (codes "--json") more ≡ true) × (k ≡ (codes "show", after_option verbs.Show more, [], 0, codes "--json")))
 IsOf verbs.Check more k =

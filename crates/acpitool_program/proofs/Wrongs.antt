@@ -2,7 +2,7 @@
 use Rattle.std.proofs.Common.{◌≡◌, ◌≢◌, ◌⊎◌, ◌≤◌, ℕ, List, [], ◌∷◌, length, Option, Some, None, refl, ap, sym, subst, ◌∙◌, inl, inr, arith, codes}
 use Rattle.acpitool_program.proofs.Rests.{same_rest, no_pointer, no_address}
 use Rattle.acpitool_program.proofs.Verbs.{heads, tails, same_verb, no_version, no_help}
-use Rattle.acpitool_program.specs.Command.{word_of, first_option, after_option, files_in, files_after, unforced, IsAddress, AreImage, AreUnpack, AreLay, IsRest, IsHelp, BeginsWithHelp, Asks, IsNoCommand}
+use Rattle.acpitool_program.specs.Command.{word_of, first_option, after_option, file_count, files_after, unforced, IsAddress, AreImage, AreUnpack, AreLay, IsRest, IsHelp, BeginsWithHelp, Asks, IsNoCommand}
 use Rattle.acpitool_program.specs.Command.{IsAfterBase, IsAfterFile, IsAfterUnpacked, IsNoUnpackBase, IsAfterLaid, HasLeft, IsNoLayBase, IsNoPointer, IsWrong}
 use Rattle.acpitool_program.specs.Laws.{WrongAskForNothing}
 use Rattle.acpitool_program.specs.declared.command.Command.{Command}
@@ -25,8 +25,8 @@ IsTaken verbs.Check more = 1 ≤ length (after_option verbs.Check more)
 IsTaken verbs.Image more = (file : List ℕ) × (base : ℕ) × AreImage (after_option verbs.Image more) file base
 IsTaken verbs.Make more = (text : List ℕ) × (file : List ℕ) × (unforced more ≡ text ∷ file ∷ [])
 IsTaken verbs.Template more = (signature : List ℕ) × (more ≡ signature ∷ []) × (length signature ≡ 4)
-IsTaken verbs.Disassemble more = 1 ≤ files_in more
-IsTaken verbs.Names more = 1 ≤ files_in (after_option verbs.Names more)
+IsTaken verbs.Disassemble more = 1 ≤ file_count more
+IsTaken verbs.Names more = 1 ≤ file_count (after_option verbs.Names more)
 IsTaken verbs.Unpack more = (file : List ℕ) × (folder : List ℕ) × (base : ℕ) × AreUnpack more file folder base
 IsTaken verbs.Cpio more = (folder : List ℕ) × (file : List ℕ) × (more ≡ folder ∷ file ∷ [])
 IsTaken verbs.Lay more =

@@ -140,16 +140,16 @@ abbrev pub is_number : List ℕ → Bool
 is_number word = has 61 word && not (has 47 word)
 
 -- how many files there are: words before the first that states a number of arguments
-abbrev pub files_in : List (List ℕ) → ℕ
-files_in [] = 0
-files_in (word ∷ words) = if is_number word then 0 else suc (files_in words)
+abbrev pub file_count : List (List ℕ) → ℕ
+file_count [] = 0
+file_count (word ∷ words) = if is_number word then 0 else suc (file_count words)
 
 -- how many files there are after `show`: after `--json` each word is one
 abbrev pub files_after : List (List ℕ) → ℕ
 files_after words =
     if begins_with (codes "--json") words
     then length (after_option verbs.Show words)
-    else files_in (after_option verbs.Show words)
+    else file_count (after_option verbs.Show words)
 
 abbrev pub unstated_by : Option (List ℕ × ℕ) → List ℕ → Option (List ℕ) → Option (List ℕ)
 unstated_by None word others = Some word
@@ -214,7 +214,7 @@ Asks words (Show style files numbers) =
     × (style ≡ style_of more)
     × (after_option verbs.Show more
     ≡ map (λ word. string_bytes word) files.now ++ map (λ word. string_bytes word) numbers.now)
-    × (length files.now ≡ files_in (after_option verbs.Show more))
+    × (length files.now ≡ file_count (after_option verbs.Show more))
     × (1 ≤ files_after more)
 Asks words (Json files) =
     (more : List (List ℕ))
@@ -238,13 +238,13 @@ Asks words (Template signature) =
 Asks words (Disassemble file numbers) =
     (more : List (List ℕ)) × AreAfter verbs.Disassemble words more
     × (more ≡ file.now ∷ map (λ word. string_bytes word) numbers.now)
-    × (1 ≤ files_in more)
+    × (1 ≤ file_count more)
 Asks words (Names json file numbers) =
     (more : List (List ℕ))
     × AreAfter verbs.Names words more
     × (json ≡ begins_with (codes "--json") more)
     × (after_option verbs.Names more ≡ file.now ∷ map (λ word. string_bytes word) numbers.now)
-    × (1 ≤ files_in (after_option verbs.Names more))
+    × (1 ≤ file_count (after_option verbs.Names more))
 Asks words (Unpack file folder base) =
     (more : List (List ℕ)) × AreAfter verbs.Unpack words more × AreUnpack more file.now folder.now base
 Asks words (Cpio folder file) = (more : List (List ℕ)) × AreAfter verbs.Cpio words more × (more ≡ folder.now ∷ file.now ∷ [])
@@ -453,8 +453,8 @@ IsWrong words NoImage =
     (more : List (List ℕ)) × AreAfter verbs.Image words more × (length (after_option verbs.Image more) ≡ 0)
 IsWrong words NoSignature = words ≡ codes "template" ∷ []
 IsWrong words NoBlock =
-    ((more : List (List ℕ)) × AreAfter verbs.Disassemble words more × (files_in more ≡ 0))
-    ⊎ ((more : List (List ℕ)) × AreAfter verbs.Names words more × (files_in (after_option verbs.Names more) ≡ 0))
+    ((more : List (List ℕ)) × AreAfter verbs.Disassemble words more × (file_count more ≡ 0))
+    ⊎ ((more : List (List ℕ)) × AreAfter verbs.Names words more × (file_count (after_option verbs.Names more) ≡ 0))
 IsWrong words (Signature word) =
     (more : List (List ℕ)) × AreAfter verbs.Template words more × (more ≡ word.now ∷ []) × (length word.now ≢ 4)
 IsWrong words NoText = (more : List (List ℕ)) × AreAfter verbs.Make words more × (unforced more ≡ [])

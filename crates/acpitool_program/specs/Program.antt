@@ -9,7 +9,7 @@ use Rattle.std.specs.declared.io.ErrorKind.TheVariants.{InvalidData}
 use Rattle.acpi_forms.specs.Known.{is_known, meant}
 use Rattle.acpi_forms.specs.Makes.{IsTemplateOf}
 use Rattle.acpi_input.specs.Stated.{stated}
-use Rattle.acpitool_program.specs.Command.{Asks, IsWrong, IsMisstated, files_in}
+use Rattle.acpitool_program.specs.Command.{Asks, IsWrong, IsMisstated, file_count}
 use Rattle.acpitool_program.specs.Apart.{LaysApart}
 use Rattle.acpitool_program.specs.Archiving.{Archives}
 use Rattle.acpitool_program.specs.Checking.{AreChecked}
@@ -173,7 +173,7 @@ IsBlockBy block file names stating out out' err err' status =
 abbrev pub IsBlockShown : BlockText → List ℕ → List (List ℕ)
     → Option (List ℕ) → Option (List ℕ) → Option (List ℕ) → Option (List ℕ) → ℕ → Type 0
 IsBlockShown block file words out out' err err' status =
-    IsBlockBy block file (take (files_in words) words) (drop (files_in words) words) out out' err err' status
+    IsBlockBy block file (take (file_count words) words) (drop (file_count words) words) out out' err err' status
 
 -- what is printed of the objects of a definition block: JSON, or lines
 abbrev pub names_text : Bool → BlockText

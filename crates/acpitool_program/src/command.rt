@@ -8,7 +8,7 @@ ghost use Rattle.acpi_input.specs.Stated.{stated};
 ghost use Rattle.acpitool_program.specs.Command.{is_option, is_force, leads, begins_with, style_of, begins_with_option};
 ghost use Rattle.acpitool_program.specs.Command.{after_option, takes, option_in, AreAfter, IsRest};
 ghost use Rattle.acpitool_program.specs.Command.{first_option, forces, unforced, has, is_number};
-ghost use Rattle.acpitool_program.specs.Command.{files_in, first_unstated, IsMisstated};
+ghost use Rattle.acpitool_program.specs.Command.{file_count, first_unstated, IsMisstated};
 ghost use Rattle.acpitool_program.specs.Command.{word_of, without_prefix, IsAddress, Asks, IsWrong};
 ghost use Rattle.acpitool_program.specs.declared.command.Verb.TheVariants as verbs;
 
@@ -318,8 +318,8 @@ fn is_number(word: &[u8]) -> bool
 }
 
 /// Returns how many words are files: those before the first that states a number of arguments.
-pub fn files_in(words: &[String]) -> usize
-    ensures is { result ≡ files_in (map (λ word. string_bytes word) words.now) }
+pub fn file_count(words: &[String]) -> usize
+    ensures is { result ≡ file_count (map (λ word. string_bytes word) words.now) }
     ensures within { result ≤ length words.now }
 {
     let mut count = 0;
@@ -345,7 +345,7 @@ fn show(words: &[String]) -> Result<Command<'_>, Wrong<'_>>
         }
         return Ok(Command::Json(rest));
     }
-    let count = files_in(rest);
+    let count = file_count(rest);
     if count == 0 {
         return Err(Wrong::NoFile);
     }
@@ -493,7 +493,7 @@ fn disassemble(words: &[String]) -> Result<Command<'_>, Wrong<'_>>
     ensures { (all : List (List ℕ)) → all ≡ codes "disassemble" ∷ map (λ word. string_bytes word) words.now
         → MatchResult result (Asks all) (IsWrong all) }
 {
-    if files_in(words) == 0 {
+    if file_count(words) == 0 {
         return Err(Wrong::NoBlock);
     }
     match words {
@@ -510,7 +510,7 @@ fn names(words: &[String]) -> Result<Command<'_>, Wrong<'_>>
 {
     let json = begins_with("--json", words);
     let rest = after_option(Verb::Names, words);
-    if files_in(rest) == 0 {
+    if file_count(rest) == 0 {
         return Err(Wrong::NoBlock);
     }
     match rest {

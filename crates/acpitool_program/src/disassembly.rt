@@ -5,10 +5,10 @@ ghost use Rattle.acpi_terms_text.specs.Objects.{callee_by};
 ghost use Rattle.acpitool_program.specs.Disassembly.{IsNoText, IsDisassembled, DisassemblesFile};
 ghost use Rattle.acpitool_program.specs.Disassembly.{AddsFile, AddsFiles};
 ghost use Rattle.acpi_asl.specs.Block.{has_terms};
-ghost use Rattle.acpitool_program.specs.Command.{files_in};
+ghost use Rattle.acpitool_program.specs.Command.{file_count};
 ghost use Rattle.acpitool_program.specs.Program.{IsBlockAmong, IsNoneAmong, IsBlockBy, IsBlockShown};
 
-use crate::command::{Misstated, Wrong, files_in, numbers};
+use crate::command::{Misstated, Wrong, file_count, numbers};
 use crate::complaint::complain;
 use crate::fault::Fault;
 use crate::files::read_word;
@@ -230,11 +230,11 @@ fn disassemble_by<R: Files + Input, O: Write, E: Write>(
 // Returns the words that are files, and those that state numbers of arguments.
 fn apart(words: &[String]) -> (&[String], &[String])
     ensures files { map (λ word. string_bytes word) result.0.now
-        ≡ take (files_in (map (λ word. string_bytes word) words.now)) (map (λ word. string_bytes word) words.now) }
+        ≡ take (file_count (map (λ word. string_bytes word) words.now)) (map (λ word. string_bytes word) words.now) }
     ensures stating { map (λ word. string_bytes word) result.1.now
-        ≡ drop (files_in (map (λ word. string_bytes word) words.now)) (map (λ word. string_bytes word) words.now) }
+        ≡ drop (file_count (map (λ word. string_bytes word) words.now)) (map (λ word. string_bytes word) words.now) }
 {
-    let count = files_in(words);
+    let count = file_count(words);
     (&words[..count], &words[count..])
 }
 

@@ -1,12 +1,13 @@
 //! What is wrong with the structures of a table.
 
-ghost use Rattle.std.specs.Prelude.{◌≡◌, ◌+◌, ◌<◌, ◌^◌, length, drop, IfOk};
+ghost use Rattle.std.specs.Prelude.{◌≡◌, ◌+◌, ◌<◌, ◌^◌, length, IfOk};
 ghost use Rattle.acpi_forms.specs.Kind.{kind_of};
 ghost use Rattle.acpitool_program.specs.Structures.{broken_at, HasBroken, HasOrBroken, HasFault, IsSoundOr};
 ghost use Rattle.acpitool_program.specs.Text.{IsKind};
 
 use crate::fault::Fault;
 use crate::text::check_kind;
+use acpi_base::slice::from_offset;
 use acpi_base::walk::{Sizes, Walk};
 use acpi_forms::further::cdat::cdat_walk;
 use acpi_forms::further::s3pt::s3pt_walk;
@@ -49,17 +50,6 @@ fn broken_at(sizes: Sizes, start: usize, bytes: &[u8]) -> Option<usize>
         left -= 1;
     }
     None
-}
-
-// Returns the bytes from an offset on.
-pub(crate) fn from_offset(offset: usize, bytes: &[u8]) -> &[u8]
-    ensures { result.now ≡ drop offset bytes.now }
-{
-    if offset < bytes.len() {
-        &bytes[offset..]
-    } else {
-        &[]
-    }
 }
 
 // Returns the fault of the first structure that isn't as long as it says, of a table without a standard header.

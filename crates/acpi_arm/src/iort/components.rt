@@ -242,7 +242,7 @@ impl RootComplex {
         self
     }
 
-    /// Sets bit 1 of the ATS attribute (offset 24): it supports address translation services.
+    /// Sets flag 1 of the ATS attribute (offset 24): it supports address translation services.
     pub fn ats_supported(mut self) -> RootComplex
         ensures { result ≡ record self { ats_attribute = bit_or self.ats_attribute 1 } }
     {
@@ -250,7 +250,7 @@ impl RootComplex {
         self
     }
 
-    /// Sets bit 2 of the ATS attribute (offset 24): it supports page requests.
+    /// Sets flag 2 of the ATS attribute (offset 24): it supports page requests.
     pub fn pri_supported(mut self) -> RootComplex
         ensures { result ≡ record self { ats_attribute = bit_or self.ats_attribute 2 } }
     {
@@ -258,7 +258,7 @@ impl RootComplex {
         self
     }
 
-    /// Sets bit 4 of the ATS attribute (offset 24): it forwards PASIDs of translated transactions to the SMMU.
+    /// Sets flag 4 of the ATS attribute (offset 24): it forwards PASIDs of translated transactions to the SMMU.
     pub fn pasid_forwarding(mut self) -> RootComplex
         ensures { result ≡ record self { ats_attribute = bit_or self.ats_attribute 4 } }
     {

@@ -207,7 +207,9 @@ pub(crate) const HINTS: [Bits; 4] = [
 ];
 
 /// Its flags.
-pub(crate) const ACCESS_FLAGS: [Bits; 2] = [
+pub(crate) const ACCESS_FLAGS: [Bits; 3] = [
     Bits::Flag(0x1, "Coherent Path to Memory"),
     Bits::Flag(0x2, "Device Attributes Cacheable and Inner Shareable"),
+    // Since DEN0049E.f.
+    Bits::Flag(0x4, "CANWBS"),
 ];

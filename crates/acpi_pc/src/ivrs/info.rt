@@ -6,6 +6,8 @@ ghost use Rattle.acpi_pc.specs.Ivrs.{iv_info, with_feature};
 // Flags of the field IVinfo.
 const EXTENDED_FEATURES: u32 = 1;
 
+const DMA_REMAPPING: u32 = 2;
+
 const ATS_RESERVED: u32 = 0x40_0000;
 
 /// The field IVinfo of an IVRS (offset 36; AMD 48882, 5.2.1).
@@ -36,6 +38,14 @@ impl IvInfo {
         ensures { result ≡ with_feature 1 self }
     {
         self.number |= EXTENDED_FEATURES;
+        self
+    }
+
+    /// Sets DmaRemapSup (bit 1): the firmware remapped DMA before the operating system starts.
+    pub fn dma_remapping(mut self) -> IvInfo
+        ensures { result ≡ with_feature 2 self }
+    {
+        self.number |= DMA_REMAPPING;
         self
     }
 

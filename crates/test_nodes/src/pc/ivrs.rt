@@ -60,6 +60,7 @@ fn infos(rt: HostRuntime) -> Result<(), Fail> {
         (IvInfo::new(0, 127, 0), [0, 0x7f, 0, 0]),
         (IvInfo::new(0, 0, 127), [0, 0x80, 0x3f, 0]),
         (IvInfo::new(0, 0, 0).extended_features(), [1, 0, 0, 0]),
+        (IvInfo::new(0, 0, 0).dma_remapping(), [2, 0, 0, 0]),
         (IvInfo::new(0, 0, 0).ats_reserved(), [0, 0, 0x40, 0]),
         (
             IvInfo::new(2, 48, 64)
