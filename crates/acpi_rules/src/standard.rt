@@ -411,7 +411,7 @@ const ALIGNED: [Relation; 12] = [
 
 // Ranges of fields at an offset of a table or of a structure. Some depend on other fields.
 #[rattlefmt::skip]
-const BOUNDED: [Relation; 28] = [
+const BOUNDED: [Relation; 25] = [
     rule!("FACP", Whole, Is(DWord(112), 1024, 1024), spot!(116, 1, "Address Space ID"), Between(0, 2), "ACPI 6.5, 5.2.9"),
     rule!("FACP", Whole, Is(DWord(112), 1024, 1024), spot!(117, 1, "Register Bit Width"), Between(8, 8), "ACPI 6.5, 5.2.9"),
     rule!("FACP", Whole, Is(DWord(112), 1024, 1024), spot!(118, 1, "Register Bit Offset"), Between(0, 0), "ACPI 6.5, 5.2.9"),
@@ -419,11 +419,6 @@ const BOUNDED: [Relation; 28] = [
     rule!("FACP", Whole, Not(DWord(248), 0xffff_ffff, 0), spot!(245, 1, "Register Bit Width"), Between(8, 8),
         "ACPI 6.5, 5.2.9"),
     rule!("FACP", Whole, Not(DWord(248), 0xffff_ffff, 0), spot!(246, 1, "Register Bit Offset"), Between(0, 0),
-        "ACPI 6.5, 5.2.9"),
-    rule!("FACP", Whole, Not(DWord(260), 0xffff_ffff, 0), spot!(256, 1, "Address Space ID"), Between(0, 2), "ACPI 6.5, 5.2.9"),
-    rule!("FACP", Whole, Not(DWord(260), 0xffff_ffff, 0), spot!(257, 1, "Register Bit Width"), Between(8, 8),
-        "ACPI 6.5, 5.2.9"),
-    rule!("FACP", Whole, Not(DWord(260), 0xffff_ffff, 0), spot!(258, 1, "Register Bit Offset"), Between(0, 0),
         "ACPI 6.5, 5.2.9"),
     rule!("ECDT", Whole, Always, spot!(36, 1, "Address Space ID"), Between(0, 1), "ACPI 6.5, 5.2.15"),
     rule!("ECDT", Whole, Always, spot!(48, 1, "Address Space ID"), Between(0, 1), "ACPI 6.5, 5.2.15"),
