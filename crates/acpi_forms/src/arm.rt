@@ -66,7 +66,7 @@ const EARLIER_GTDT: TableForm = TableForm {
     inner: &Inner::Nothing,
 };
 
-/// Returns the form of the same table before revision 3, which has no virtual EL2 timer (ACPI 6.2, 5.2.24).
+/// Returns the form of a Generic Timer Description Table before revision 3, which has no virtual EL2 timer (ACPI 6.2, 5.2.24).
 pub fn earlier_gtdt_form() -> TableForm
     ensures { IsNamed result earlier_gtdt_names }
 {
@@ -122,8 +122,8 @@ pub fn dbg2_form() -> TableForm
 
 const NO_PASID: [Row; 1] = [Row::Reserved(3)];
 
-// The fields of a root complex from offset 33 on, by the offset of its mappings. Up to revision 3 of the node its mappings
-// begin at offset 36.
+// The fields of a root complex from offset 33 on, by the offset of its mappings: 36 in revisions 1 to 3 of the node. In revision
+// 0 it is 32, which is no choice here: the byte at 32 is of a mapping then, and the rest has no names.
 const ROOT_COMPLEX_ENDS: [Choice; 2] = [
     Choice {
         number: 40,
@@ -244,7 +244,8 @@ const IORT: TableForm = TableForm {
     inner: &Inner::Nothing,
 };
 
-/// Returns the form of the IO Remapping Table (Arm DEN0049E.d).
+/// Returns the form of the IO Remapping Table (Arm DEN0049E.d). The first nodes of type 2, 4 and 5, of revision 0, are shorter: the
+/// bytes after their fields have the names of later revisions.
 pub fn iort_form() -> TableForm
     ensures { IsNamed result iort_names }
 {

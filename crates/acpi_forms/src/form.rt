@@ -42,8 +42,8 @@ fn find_form(signature: u32, rows: &[([u8; 4], TableForm)], other: TableForm) ->
     other
 }
 
-// There is a function for each list, since the proof goes through the whole list. The first seven are those of tables that are
-// only read.
+// There is a function for each list, since the proof goes through the whole list. The first seven are those of `further`: tables
+// that are only read, and those of `acpi_pc`.
 fn memory_form(signature: u32) -> TableForm
     ensures { IsNamed result (named_memory signature) }
 {
@@ -87,7 +87,7 @@ fn boot_form(signature: u32) -> TableForm
     find_form(signature, &BOOT_FORMS, security_form(signature))
 }
 
-// Returns the form of a table for the timers, the firmware and the devices of a PC, or that of a table which is only read.
+// Returns the form of a table for the timers, the firmware and the devices of a PC, or that of a table of `further`.
 #[rattlefmt::skip]
 fn pc_form(signature: u32) -> TableForm
     ensures { IsNamed result (named_pc signature) }

@@ -1,5 +1,5 @@
-//! The forms of tables that are only read, by their signatures, and of such structures of other tables. A list is short enough
-//! for the toolchain to copy.
+//! The forms of tables that are only read and of those of `acpi_pc`, by their signatures, and of structures of other tables that
+//! are only read. A list is short enough for the toolchain to copy.
 
 pub mod aest;
 pub mod agdi;

@@ -32,7 +32,7 @@ pub enum Layout {
     SpecifiedRimt,
     /// That of a PMTT of revision 1.
     EarlierPmtt,
-    /// That of a GTDT before revision 3, whose timers may begin at 96.
+    /// That of a GTDT of revision 2, whose timers may begin at 96. One of revision 1 (ACPI 5.0) has this form, too: it ends at 80.
     EarlierGtdt,
 }
 
@@ -168,7 +168,8 @@ pub fn written_nodes_are_usual()
 
 /// Returns the form of a table of a signature, by its bytes. A RIMT has the layout of the RISC-V specification if the fields of
 /// its first node say so for certain, and that of this project's profile otherwise. A PMTT of revision 1 (the byte at 8) has
-/// another layout than those of later revisions. All other tables have the form of their signature.
+/// another layout than those of later revisions, and so has a GTDT of revision 1 or 2. All other tables have the form of their
+/// signature.
 #[tactic(auto, unfolding(crate::specs::Layout::names_in))]
 pub fn form_in(signature: u32, bytes: &[u8]) -> TableForm
     ensures { IsNamed result (names_in signature bytes.now) }
@@ -176,8 +177,8 @@ pub fn form_in(signature: u32, bytes: &[u8]) -> TableForm
     form_as(layout_in(signature, bytes), signature)
 }
 
-/// Returns the walk of a table of a signature, by its bytes. The timers of a GTDT begin after the offset of the first before
-/// revision 3 (the byte at 8), and after the virtual EL2 timer from there on. All other tables have the walk of their signature.
+/// Returns the walk of a table of a signature, by its bytes. The timers of a GTDT begin at 96 or later if its revision (the byte at
+/// 8) is 1 or 2, and at 104 or later otherwise. All other tables have the walk of their signature.
 #[tactic(auto, unfolding(crate::specs::Layout::walk_in))]
 pub fn walk_in(signature: u32, bytes: &[u8]) -> Option<Walk>
     ensures { result ≡ walk_in signature bytes.now }

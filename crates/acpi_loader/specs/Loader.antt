@@ -53,7 +53,7 @@ pub record IsImageOf (files : List (List ℕ)) (image : Image) (tables : Tables)
 abbrev pub IsSmallImage : List (List ℕ) → Image → Type 0
 IsSmallImage files image = (tables : Tables) × IsImageOf files image tables
 
--- where what is an address is in this image
+-- the tables of this image that hold addresses
 abbrev pub IsPlaced : List (List ℕ) → Image → Places → Type 0
 IsPlaced files image places = (tables : Tables) × IsImageOf files image tables × (places ≡ places_of tables)
 

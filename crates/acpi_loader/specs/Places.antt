@@ -1,4 +1,4 @@
--- Where among the tables what is an address is, and the commands that put the addresses in.
+-- The offsets of the tables that hold addresses, and the commands that put the addresses in.
 use Rattle.std.specs.Prelude.{ℕ, zero, suc, ◌+◌, ◌*◌, Bool, true, false, List, [], ◌∷◌, ◌++◌, length}
 use Rattle.std.specs.Option.{is_some}
 use Rattle.acpi_loader.specs.declared.command.Command.{Command}

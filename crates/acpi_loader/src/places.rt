@@ -1,4 +1,4 @@
-//! Where among the tables what is an address is.
+//! The offsets of the tables that hold addresses.
 
 ghost use Rattle.std.specs.Prelude.{◌≡◌, ◌+◌, ◌<◌, ◌^◌, length, map};
 ghost use Rattle.acpi_layout.specs.Files.{named};
@@ -8,7 +8,7 @@ ghost use Rattle.acpi_loader.specs.Loader.{first_size, are_some, IsSmallImage, I
 use acpi_layout::layout::Image;
 use acpi_read::bytes::{dword_at, qword_at};
 
-/// Where what is an address is. Offsets are counted from the first byte of the tables.
+/// The tables that hold addresses. Offsets are counted from the first byte of the tables.
 #[derive(Clone, Copy, Debug)]
 pub struct Places {
     /// Whether the FADT points to a FACS.
@@ -57,7 +57,7 @@ fn next(size: usize) -> usize
     size + (8 - size % 8) % 8
 }
 
-/// Returns where what is an address is in the image of files for the address 0.
+/// Returns the offsets of the tables that hold addresses, in the image of files for the address 0.
 pub fn places_of(files: &[Vec<u8>], image: &Image) -> Places
     requires { IsSmallImage (map (λ file. file.items) files.now) image.now }
     ensures { IsPlaced (map (λ file. file.items) files.now) image.now result }

@@ -115,7 +115,7 @@ fn push_name(depth: usize, item: &Item<'_>, text: &mut Vec<u8>) -> Result<(), Al
     text.extend_from_slice(b"\n")
 }
 
-// Adds it if it is in a structure.
+// Adds the line of a number if its field is in a structure.
 fn push_name_in(
     depth: usize,
     node: &Node,

@@ -123,7 +123,7 @@ pub record HaveNoApart (folder file : List ℕ) (base rsdp : ℕ) (paths : List 
 abbrev pub IsNotLaidApart : List ℕ → List ℕ → List ℕ → ℕ → ℕ → List (List ℕ) → Option (List ℕ) → Option (List ℕ) → ℕ → Type 0
 IsNotLaidApart folder file pointer base rsdp paths err err' status =
     WouldReplace (codes "image") file err err' status
-    ⊎ WouldReplace (codes "image") pointer err err' status
+    ⊎ WouldReplace (codes "RSDP") pointer err err' status
     ⊎ IsMisread paths err err' status
     ⊎ HaveNoApart folder file base rsdp paths err err' status
 

@@ -168,7 +168,7 @@ fn apart_of_paths<R: Files, E: Write>(
         return Ok(Err(tell_replaced("image", file, err)?));
     }
     if is_among(rt, pointer, paths) {
-        return Ok(Err(tell_replaced("image", pointer, err)?));
+        return Ok(Err(tell_replaced("RSDP", pointer, err)?));
     }
     match read_files(rt, alloc, paths, err)? {
         Ok(files) => Ok(apart_of_files(alloc, folder, file, base, rsdp, paths, &files, err)?),

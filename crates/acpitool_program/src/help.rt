@@ -90,8 +90,9 @@ standard input.
 
 cpio writes the archive from which Linux takes tables in its initrd: the files of FOLDER in kernel/firmware/acpi, byte
 for byte as cpio -H newc makes it, with root as owner and the time 0. Linux takes no RSDP and no FACS from there: a line
-names each of these files, which is left out. Any other file has to be a table with the standard header. As FILE, - is
-standard output; a regular FILE is replaced as make does it, unless it is one of the tables.
+names each of these files, which is left out. Any other file has to be a table with the standard header. Linux ignores
+those of signatures that its drivers/acpi/tables.c doesn't list, such as GTDT and TPM2. As FILE, - is standard output; a
+regular FILE is replaced as make does it, unless it is one of the tables.
 
 lay writes the image of the tables of FOLDER for the physical address BASE in hexadecimal, a multiple of 0x40. Each file
 has to be a table, an RSDP or a FACS, or a text whose name ends in .txt, .asl or .dsl, which make would make into one.

@@ -169,7 +169,7 @@ fn push_address(address: u64, text: &mut Vec<u8>) -> Result<(), AllocError>
     push_member(b"{\"address\":", address, text)
 }
 
-// Adds the one with its signature.
+// Adds the member with the signature of a table.
 #[tactic(auto, unfolding(crate::specs::Image::signature_member))]
 fn push_signature(signature: &[u8], text: &mut Vec<u8>) -> Result<(), AllocError>
     ensures { OnOk result (text.new.items ≡ text.old.items ++ signature_member signature.now) }
@@ -178,7 +178,7 @@ fn push_signature(signature: &[u8], text: &mut Vec<u8>) -> Result<(), AllocError
     push_string(signature, text)
 }
 
-// Adds the one with its length.
+// Adds the member with the length of a table.
 #[tactic(auto, unfolding(crate::specs::Image::length_member))]
 fn push_length(length: u32, text: &mut Vec<u8>) -> Result<(), AllocError>
     ensures { OnOk result (text.new.items ≡ text.old.items ++ length_member length) }
@@ -187,7 +187,7 @@ fn push_length(length: u32, text: &mut Vec<u8>) -> Result<(), AllocError>
     push_decimal(u64::from(length), text)
 }
 
-// Adds the one with its revision.
+// Adds the member with the revision of a table.
 #[tactic(auto, unfolding(crate::specs::Image::revision_member))]
 fn push_revision(revision: u8, text: &mut Vec<u8>) -> Result<(), AllocError>
     ensures { OnOk result (text.new.items ≡ text.old.items ++ revision_member revision) }

@@ -148,7 +148,7 @@ fn read_one<R: Files, E: Write>(
     }
 }
 
-// Returns the bytes of files, or prints why the first that is refused is, and returns the status.
+// Returns the bytes of files, or prints why one of them is refused, and returns the status. Files after it aren't read.
 pub(crate) fn read_files<R: Files, E: Write>(
     rt: &R,
     alloc: Global,

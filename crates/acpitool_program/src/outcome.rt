@@ -30,7 +30,7 @@ use std::alloc::{AllocError, Global};
 use std::io;
 use std::io::Write;
 
-/// Prints a fault, if there is one, and returns 1, or returns 0.
+/// Prints a fault and returns 1, or returns 0 if there is none.
 pub fn tell_fault<E: Write>(
     alloc: Global,
     name: &str,

@@ -206,10 +206,9 @@ pub(crate) const HINTS: [Bits; 4] = [
     Bits::Flag(0x8, "Allocation Hints Override"),
 ];
 
-/// Its flags.
+/// Its flags. CANWBS is there since DEN0049E.f.
 pub(crate) const ACCESS_FLAGS: [Bits; 3] = [
     Bits::Flag(0x1, "Coherent Path to Memory"),
     Bits::Flag(0x2, "Device Attributes Cacheable and Inner Shareable"),
-    // Since DEN0049E.f.
     Bits::Flag(0x4, "CANWBS"),
 ];

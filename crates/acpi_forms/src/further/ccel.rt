@@ -2,7 +2,7 @@
 
 use acpi_base::header::HEADER;
 use acpi_base::row::{Row, Word};
-use acpi_text::form::{Inner, Part, Start, TableForm};
+use acpi_text::form::{Inner, Part, TableForm};
 
 const CC_TYPES: [Word; 2] = [Word(1, "AMD SEV"), Word(2, "Intel TDX")];
 

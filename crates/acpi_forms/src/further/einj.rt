@@ -2,7 +2,7 @@
 
 use acpi_base::header::HEADER;
 use acpi_base::row::{Bits, Row, Word};
-use acpi_text::form::{Count, Inner, Part, StructureForm, TableForm};
+use acpi_text::form::{Inner, Part, StructureForm, TableForm};
 
 const EINJ_FIXED: [Row; 4] = [
     Row::Number("Injection Header Size", 4),

@@ -3,7 +3,7 @@
 use acpi_base::header::HEADER;
 use acpi_base::row::Row;
 use acpi_pc::erst::{ERST_FIXED, SERIALIZATION_ENTRY};
-use acpi_text::form::{Count, Inner, Part, StructureForm, TableForm};
+use acpi_text::form::{Inner, Part, StructureForm, TableForm};
 
 const ENTRY_COUNT: [Row; 1] = [Row::Number("Instruction Entry Count", 4)];
 

@@ -3,7 +3,7 @@
 
 use acpi_base::row::{Bits, Row, Word};
 use acpi_base::walk::Place;
-use acpi_text::form::{Choice, Count, Inner, Part, Start, StructureForm};
+use acpi_text::form::{Choice, Inner, Part, StructureForm};
 
 // The Multiprocessor Wakeup Structure (ACPI 6.5, 5.2.12.19).
 const WAKEUP: [Row; 5] = [

@@ -6,7 +6,7 @@ use acpi_pc::nfit::{
     CAPABILITIES, CONTROL_REGION, DATA_WINDOW, FLUSH_HINT, INTERLEAVE, NFIT_FIXED, REGION_MAPPING,
     SMBIOS_INFORMATION, SPA_RANGE,
 };
-use acpi_text::form::{Count, Inner, Part, Start, StructureForm, TableForm};
+use acpi_text::form::{Count, Inner, Part, StructureForm, TableForm};
 
 const NFIT_STRUCTURES: [StructureForm; 8] = [
     StructureForm {

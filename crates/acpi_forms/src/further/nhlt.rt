@@ -7,12 +7,14 @@ use acpi_text::form::{Count, Inner, InnerForm, InnerList, InnerSize, Part, Start
 
 const NHLT_FIXED: [Row; 1] = [Row::Number("Endpoint Count", 1)];
 
-const LINK_TYPES: [Word; 5] = [
+const LINK_TYPES: [Word; 7] = [
     Word(0, "HD Audio"),
     Word(1, "DSP"),
     Word(2, "PDM"),
     Word(3, "SSP"),
     Word(4, "SlimBus"),
+    Word(5, "SoundWire"),
+    Word(6, "UAOL"),
 ];
 
 const DIRECTIONS: [Word; 2] = [Word(0, "Render"), Word(1, "Capture")];

@@ -2,7 +2,7 @@
 
 use acpi_base::header::HEADER;
 use acpi_base::row::{Bits, Row};
-use acpi_text::form::{Count, Inner, Part, StructureForm, TableForm};
+use acpi_text::form::{Inner, Part, StructureForm, TableForm};
 
 const PDTT_FIXED: [Row; 3] = [
     Row::Number("Trigger Count", 1),

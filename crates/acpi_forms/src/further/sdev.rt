@@ -3,7 +3,7 @@
 use acpi_base::header::HEADER;
 use acpi_base::row::{Bits, Row, Word};
 use acpi_base::walk::Place;
-use acpi_text::form::{Choice, Inner, Part, Start, StructureForm, TableForm};
+use acpi_text::form::{Choice, Inner, Part, StructureForm, TableForm};
 
 const SDEV_FLAGS: [Bits; 2] = [
     Bits::Flag(0x1, "Allow Handoff to Non-Secure OS"),

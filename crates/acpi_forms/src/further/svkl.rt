@@ -2,7 +2,7 @@
 
 use acpi_base::header::HEADER;
 use acpi_base::row::{Row, Word};
-use acpi_text::form::{Count, Inner, Part, StructureForm, TableForm};
+use acpi_text::form::{Inner, Part, StructureForm, TableForm};
 
 const SVKL_FIXED: [Row; 1] = [Row::Number("Key Count", 4)];
 

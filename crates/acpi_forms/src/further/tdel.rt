@@ -2,7 +2,7 @@
 
 use acpi_base::header::HEADER;
 use acpi_base::row::Row;
-use acpi_text::form::{Inner, Part, Start, TableForm};
+use acpi_text::form::{Inner, Part, TableForm};
 
 const TDEL_ROWS: [Row; 3] = [
     Row::Reserved(4),

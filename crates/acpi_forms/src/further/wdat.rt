@@ -2,7 +2,7 @@
 
 use acpi_base::header::HEADER;
 use acpi_base::row::{Bits, Row, Word};
-use acpi_text::form::{Count, Inner, Part, StructureForm, TableForm};
+use acpi_text::form::{Inner, Part, StructureForm, TableForm};
 
 const WATCHDOG_FLAGS: [Bits; 2] = [
     Bits::Flag(0x1, "Enabled"),

@@ -2,7 +2,7 @@
 
 use acpi_base::header::HEADER;
 use acpi_base::row::Row;
-use acpi_text::form::{Count, Inner, Part, TableForm};
+use acpi_text::form::{Inner, Part, TableForm};
 
 const WDDT_ROWS: [Row; 9] = [
     Row::Hex("Specification Version", 2),

@@ -167,7 +167,7 @@ fn not_apart(rt: HostRuntime) -> Result<(), Fail> {
 fn not_saved_apart(rt: HostRuntime) -> Result<(), Fail> {
     fs::create_dir(&rt, "two_files")?;
     write(&rt, "two_files/dsdt.rsdp", &DSDT)?;
-    let line = "two_files/dsdt.rsdp: the image would replace a table\n";
+    let line = "two_files/dsdt.rsdp: the RSDP would replace a table\n";
     let words = ["lay", "--rsdp", "e0000", "two_files", "two_files/dsdt", "0"];
     ends(&rt, &words, 1, &[], &[line])?;
     let words = [
