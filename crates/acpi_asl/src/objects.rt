@@ -18,6 +18,7 @@ use crate::number::{push_decimal, push_json_number, push_json_string};
 use acpi_term::apart::{Kind, parts_of};
 use acpi_term::name_string::NameString;
 use acpi_term::term::{Term, TermEntry};
+use acpi_terms_text::id::is_id_name;
 use acpi_terms_text::path::{joined, path_in};
 use std::alloc::{AllocError, Global};
 

@@ -7,7 +7,6 @@ ghost use Rattle.acpi_asl.specs.Place.{is_elements, is_statements, is_statement,
 ghost use Rattle.acpi_asl.specs.Place.{is_left_out, spaces, new_line, depth_in, opened, closed, separator, before, after};
 
 use acpi_term::apart::Kind;
-use acpi_term::name_string::NameString;
 use acpi_term::op::Op;
 use acpi_terms_text::id::has_ids;
 use acpi_terms_text::path::last_segment;
