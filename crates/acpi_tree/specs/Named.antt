@@ -1,18 +1,26 @@
 -- The numbers in a table by which it names parts of its machine, such as proximity domains and processors.
-use Rattle.std.specs.Prelude.{ℕ, ◌+◌, nat_le, nat_lt, ◌&&◌, Bool, if◌then◌else◌, List, [], ◌++◌, codes}
+use Rattle.std.specs.Prelude.{ℕ, ◌+◌, nat_le, nat_lt, ◌&&◌, ◌==◌, Bool, if◌then◌else◌, List, [], ◌++◌, codes}
 use Rattle.std.specs.Fmt.{decimal}
 use Rattle.std.specs.List.{flat_map}
 use Rattle.acpi_rules.specs.Across.{column_items}
 use Rattle.acpi_rules.specs.Item.{Item}
-use Rattle.acpi_rules.specs.Link.{Link}
+use Rattle.acpi_rules.specs.Link.{Column, Link}
 use Rattle.acpi_rules.specs.Machine.{affinities, named}
 use Rattle.acpi_rules.specs.Rules.{number_of}
 use Rattle.acpi_tree.specs.Spaces.{spaces}
 use Rattle.acpi_tree.specs.declared.graph.Node.{Node}
 
--- those of a rule
+-- the column of the fields that have the high bytes of a column's numbers
+abbrev pub high_of : Column → Column
+high_of column = record column { low = column.high }
+
+-- these fields, if there are any
+abbrev pub high_items : List ℕ → Column → List Item
+high_items table column = if column.high.width == 0 then [] else column_items (high_of column) table
+
+-- the numbers of a rule: the fields that have them or their low bytes, and then those that have their high bytes
 abbrev pub link_items : List ℕ → Link → List Item
-link_items table link = column_items link.column table
+link_items table link = column_items link.column table ++ high_items table link.column
 
 -- those of a table, in the order of the rules
 abbrev pub named_in : List ℕ → List Item

@@ -7,14 +7,15 @@ ghost use Rattle.acpi_rules.specs.Across.{column_items};
 ghost use Rattle.acpi_rules.specs.Item.{item_by};
 ghost use Rattle.acpi_rules.specs.Link.{column_by, link_by};
 ghost use Rattle.acpi_rules.specs.Machine.{affinities, named};
-ghost use Rattle.acpi_tree.specs.Named.{link_items, named_in, is_inside, name_line, name_line_in, name_lines};
+ghost use Rattle.acpi_tree.specs.Named.{high_of, high_items, link_items, named_in, is_inside, name_line, name_line_in};
+ghost use Rattle.acpi_tree.specs.Named.{name_lines};
 
 use crate::graph::Node;
 use crate::tree::push_spaces;
 use acpi_json::number::push_decimal;
 use acpi_rules::across::column_items;
 use acpi_rules::item::Item;
-use acpi_rules::link::Link;
+use acpi_rules::link::{Column, Link};
 use acpi_rules::machine::{AFFINITIES, NAMED};
 use acpi_rules::rules::number_of;
 use std::alloc::{AllocError, Global};
@@ -28,6 +29,35 @@ fn push_items<'a>(found: &[Item<'a>], items: &mut Vec<Item<'a>>) -> Result<(), A
     Ok(())
 }
 
+// Returns the column of the fields that have the high bytes of a column's numbers.
+fn high_of(column: &Column) -> Column
+    ensures { column_by result ≡ high_of (column_by column.now) }
+{
+    Column {
+        table: column.table,
+        among: column.among,
+        low: column.high,
+        high: column.high,
+    }
+}
+
+// Adds the fields that have the high bytes of a column's numbers, if there are any.
+fn push_high<'a>(
+    alloc: Global,
+    table: &'a [u8],
+    column: &Column,
+    items: &mut Vec<Item<'a>>,
+) -> Result<(), AllocError>
+    ensures { OnOk result (map item_by items.new.items
+        ≡ map item_by items.old.items ++ high_items table.now (column_by column.now)) }
+{
+    if column.high.width == 0 {
+        return Ok(());
+    }
+    let found = column_items(alloc, &high_of(column), table)?;
+    push_items(&found, items)
+}
+
 // Adds the numbers of a rule.
 fn push_link<'a>(
     alloc: Global,
@@ -39,7 +69,8 @@ fn push_link<'a>(
         ≡ map item_by items.old.items ++ link_items table.now (link_by link.now)) }
 {
     let found = column_items(alloc, &link.column, table)?;
-    push_items(&found, items)
+    push_items(&found, items)?;
+    push_high(alloc, table, &link.column, items)
 }
 
 fn push_links<'a>(

@@ -80,19 +80,33 @@ pub enum Style {
 /// A command that takes words.
 #[derive(Clone, Copy, Debug)]
 pub enum Verb {
+    /// `show` prints tables as text.
     Show,
+    /// `check` prints what is wrong with tables.
     Check,
+    /// `image` finds the tables of an image.
     Image,
+    /// `make` makes a table of a text.
     Make,
+    /// `template` prints a text of a table.
     Template,
+    /// `disassemble` prints a definition block as ASL.
     Disassemble,
+    /// `names` prints the objects of a definition block.
     Names,
+    /// `unpack` writes the tables of an image or a dump to files.
     Unpack,
+    /// `cpio` writes an archive of tables for Linux.
     Cpio,
+    /// `lay` writes an image of tables.
     Lay,
+    /// `loader` writes the files by which QEMU hands tables to firmware.
     Loader,
+    /// `repair` sets the length and the checksums of a table.
     Repair,
+    /// `diff` prints in which fields two tables differ.
     Diff,
+    /// `tree` prints which structures refer to which.
     Tree,
 }
 
