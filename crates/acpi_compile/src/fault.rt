@@ -80,7 +80,9 @@ pub struct AslFault {
 /// Why a text isn't made into a block.
 #[derive(Debug, Drop)]
 pub enum AslError {
+    /// Memory ran out.
     Memory,
+    /// The text has this fault.
     Fault(AslFault),
 }
 

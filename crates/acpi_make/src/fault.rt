@@ -68,8 +68,9 @@ pub enum Wanted {
 /// What is wrong with a text, and where. A place is the number of characters from it to the text's end.
 #[derive(Clone, Copy, Debug, PartialEq, Eq)]
 pub struct Fault {
-    /// The range of what is wrong: the place of its first character, and the place after its last.
+    /// The place of the first character of what is wrong.
     pub from: usize,
+    /// The place after its last character.
     pub to: usize,
     /// What has to stand there.
     pub wanted: Wanted,
@@ -84,14 +85,18 @@ pub struct Fault {
 /// Why a text isn't made into bytes.
 #[derive(Clone, Copy, Debug, PartialEq, Eq)]
 pub enum MakeError {
+    /// Memory ran out.
     Memory,
+    /// The text has this fault.
     Fault(Fault),
 }
 
 /// A line and a column of a text, both counted from 1. A column is a number of bytes.
 #[derive(Clone, Copy, Debug, PartialEq, Eq)]
 pub struct Position {
+    /// The line.
     pub line: usize,
+    /// The column.
     pub column: usize,
 }
 
