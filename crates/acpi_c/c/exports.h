@@ -1,4 +1,5 @@
-/* The proved functions that hyssop.c calls: the exports of src/lib.rt. No pointer may be NULL. */
+/* The exports of the files in src: the proved functions that hyssop.c calls, and hyssop_export_fault_name, which tests call. No
+   pointer may be NULL. */
 #ifndef HYSSOP_EXPORTS_H
 #define HYSSOP_EXPORTS_H
 

@@ -3,8 +3,8 @@
    A function returns HYSSOP_FINE, or the fault that it found. The numbers of faults never change. What a caller owes:
 
    - A pointer whose size isn't 0 is valid for that size and aligned for its type. The size counts bytes, and elements where its
-     name ends with `count`. NULL is allowed with a size of 0, but not in a range, and for `size`, `count`, `place` and the like,
-     which are then not written.
+     name ends with `count`. NULL is allowed with a size of 0, but not as the bytes of a range. NULL is also allowed for a result
+     that isn't wanted: `size`, `count`, `place`, `unread`, `rsdp`, and `offset` where it is a pointer.
    - Memory that is written overlaps no other argument. During the call no other thread uses it, and none writes to what is read.
    - malloc, realloc and free are those of one allocator, and align a block as C says. No call is made from a signal handler, or
      from the forked child of a process with threads.
@@ -12,7 +12,7 @@
      hyssop_names_among and hyssop_compile, and 128 KiB for every other function.
 
    Nothing is kept between calls, and several threads may call at once. What is found is written to the front of `out`, and *size
-   or *count is how much that is. Texts have no zero at their end. If it is more than fits, the result is HYSSOP_FAULT_BUFFER, and
+   or *count is how much that is. Texts have no zero at their end. If more is found than fits, the result is HYSSOP_FAULT_BUFFER, and
    `out` is unchanged: a first call with a size of 0 asks for the size, and does all the work. With any other fault *size and
    *count are 0, and `out` is unchanged. *place is where a fault is, and 0 if there is none. */
 #ifndef HYSSOP_H
@@ -178,7 +178,8 @@ enum hyssop_memory_type {
     HYSSOP_MEMORY_PREFETCHABLE = 3
 };
 
-/* The address spaces of regions (20.2.5.2, RegionSpace). From 0x80 on they are those of an OEM. */
+/* The address spaces of regions (20.2.5.2, RegionSpace). hyssop_region takes other numbers, too: 0x0a is PCC, 0x0b is
+   PlatformRtMechanism, and from 0x80 on they are those of an OEM. */
 enum hyssop_space {
     HYSSOP_SPACE_SYSTEM_MEMORY = 0,
     HYSSOP_SPACE_SYSTEM_IO = 1,
@@ -209,10 +210,11 @@ enum hyssop_update {
     HYSSOP_UPDATE_WRITE_AS_ZEROES = 2
 };
 
-/* The operators (20.2.5), by the names of ASL in upper case. The number is the opcode (20.3). Operands follow an operator in the
-   order of 20.2.5, and its target after them. The integer 0 is no target. LNotEqual, LLessEqual and LGreaterEqual are LNOT and
-   then LEQUAL, LGREATER and LLESS. ACQUIRE and RELEASE are those of an object that isn't a name, as Arg0. The timeout follows the
-   object as two bytes (`hyssop_bytes`). */
+/* The operators (20.2.5). A constant has the name of its opcode in 20.3 without Op: CONCAT is Concatenate of ASL, CONCATRES is
+   ConcatenateResTemplate, and DATAREGION is DataTableRegion. The number is the opcode. Operands follow an operator in the order
+   of 20.2.5, and its target after them. The integer 0 is no target. LNotEqual, LLessEqual and LGreaterEqual are LNOT and then
+   LEQUAL, LGREATER and LLESS. A MatchOpcode of MATCH is a byte (`hyssop_bytes`), and no integer. ACQUIRE and RELEASE are those of
+   an object that isn't a name, as Arg0. The timeout follows the object as two bytes (`hyssop_bytes`). */
 enum hyssop_op {
     HYSSOP_OP_LNOT = 0x92, HYSSOP_OP_LEQUAL = 0x93, HYSSOP_OP_LLESS = 0x95, HYSSOP_OP_LGREATER = 0x94, HYSSOP_OP_LAND = 0x90,
     HYSSOP_OP_LOR = 0x91, HYSSOP_OP_INCREMENT = 0x75, HYSSOP_OP_DECREMENT = 0x76, HYSSOP_OP_BREAK = 0xa5,
@@ -235,7 +237,7 @@ enum hyssop_op {
 
 uint32_t hyssop_version(void);
 
-/* The words of a fault, with a zero at their end. They are constant. */
+/* The words of a fault, with a zero at their end. They are constant. A number of no fault has those of number 3. */
 const char *hyssop_fault_words(uint32_t number);
 
 /* Checks a table: its header, its length and its sum (ACPI 6.5, 5.2.6). *place is an offset. It takes no memory. */
@@ -303,8 +305,8 @@ HYSSOP_RESULT enum hyssop_fault hyssop_memory_tables(const struct hyssop_range *
                                                      struct hyssop_image_table *out, size_t out_count, size_t *count,
                                                      uint64_t *place);
 
-/* Finds the RSDP in memory (5.2.5.1), at a multiple of 16 bytes. *offset is where it is, and 0 with a fault. It takes no
-   memory. */
+/* Finds the RSDP in memory (5.2.5.1): at a multiple of 16 bytes from the front of `bytes`, which lies at a multiple of 16 in the
+   guest's memory, too. *offset is where the RSDP begins, and 0 with a fault. It takes no memory. */
 HYSSOP_RESULT enum hyssop_fault hyssop_find_rsdp(const void *bytes, size_t bytes_size, size_t *offset);
 
 /* Writes the text of a table, an RSDP, a FACS, a CDAT or an S3PT: a line for each field, by its name. *place is an offset. */
@@ -423,7 +425,7 @@ enum hyssop_fault hyssop_event(struct hyssop_writer *writer, const char *path);
 /* Gives the object `source` a second name (20.2.5.1, DefAlias). */
 enum hyssop_fault hyssop_alias(struct hyssop_writer *writer, const char *source, const char *name);
 
-/* Declares an object of another block (20.2.5.1, DefExternal): its type (19.6.46), and how many arguments it has as a method. */
+/* Declares an object of another block (20.2.5.2, DefExternal): its type (19.6.45), and how many arguments it has as a method. */
 enum hyssop_fault hyssop_external(struct hyssop_writer *writer, const char *path, uint8_t kind, uint8_t arguments);
 
 /* Writes a name: an operand, or a call of a method, whose arguments follow (20.2.2, NameString). */
@@ -456,11 +458,12 @@ enum hyssop_fault hyssop_bytes(struct hyssop_writer *writer, const void *content
 /* Writes a range of ports: its least and its greatest base, their alignment, and the number of ports (6.4.2.5). */
 enum hyssop_fault hyssop_io(struct hyssop_writer *writer, uint16_t min, uint16_t max, uint8_t alignment, uint8_t length);
 
-/* Writes an interrupt (6.4.3.6). */
+/* Writes an interrupt (6.4.3.6): whether the device consumes it, whether an edge triggers it and not a level, whether it is
+   active low and not high, whether devices share it, and its number. */
 enum hyssop_fault hyssop_interrupt(struct hyssop_writer *writer, int consumer, int edge_triggered, int active_low, int shared,
                                    uint32_t number);
 
-/* Writes a range of memory at a fixed address (6.4.3.4). */
+/* Writes a range of memory at a fixed address (6.4.3.4): whether it can be written, its first address, and its size in bytes. */
 enum hyssop_fault hyssop_memory32_fixed(struct hyssop_writer *writer, int read_write, uint32_t base, uint32_t length);
 
 /* Writes a range of bus numbers, from its first to its last (6.4.3.5). */

@@ -10,8 +10,8 @@ use std::io::Read;
 /// The number of bytes of a standard header (ACPI 6.5, 5.2.6).
 const HEADER: u64 = 36;
 
-// How many bytes to read after a header. If the length in the header is below 36, one more byte is enough: the check refuses
-// them.
+// How many bytes to read after a header. If the length in the header is below 36, one more byte is enough: the check refuses a
+// table with such a length.
 fn after_header(header: &[u8]) -> u64
     ensures { result ≡ after_header header.now }
 {

@@ -1,11 +1,12 @@
 -- The archive of the tables of a folder.
-use Rattle.std.specs.Prelude.{◌≡◌, ◌⊎◌, ℕ, Bool, true, false, if◌then◌else◌, List, [], ◌∷◌, ◌++◌, Option, Some, None, map, codes}
-use Rattle.std.specs.Option.{option_to_list}
+use Rattle.std.specs.Prelude.{◌≡◌, ◌⊎◌, ◌&&◌, ℕ, Bool, true, false, if◌then◌else◌, List, [], ◌∷◌, ◌++◌, Option, Some, None, map, codes}
+use Rattle.std.specs.Option.{is_none, option_to_list}
 use Rattle.std.specs.Io.KnownBytes.{Keeps, Appends}
 use Rattle.acpi_cpio.specs.Archive.{file_entry, first_misfit, tables_archive}
 use Rattle.acpi_forms.specs.Kind.{kind_of}
 use Rattle.acpi_make.specs.declared.file_kind.FileKind.{FileKind}
 use Rattle.acpi_make.specs.declared.file_kind.FileKind.TheVariants.{Rsdp, Facs, Cdat, S3pt, Table}
+use Rattle.acpitool_program.specs.Another.{another_of}
 use Rattle.acpitool_program.specs.Command.{has}
 use Rattle.acpitool_program.specs.Fault.{line_of}
 use Rattle.acpitool_program.specs.Headed.{IsHeaded, IsNoTable}
@@ -19,13 +20,17 @@ abbrev pub name_of : List ℕ → List ℕ
 name_of [] = []
 name_of (c ∷ path) = if has 47 (c ∷ path) then name_of path else c ∷ path
 
--- whether Linux takes no file of a kind from its initrd
-abbrev pub is_left_out : FileKind → Bool
-is_left_out Rsdp = true
-is_left_out Facs = true
-is_left_out Cdat = false
-is_left_out S3pt = false
-is_left_out Table = false
+-- whether Linux takes no table of a kind from its initrd
+abbrev pub leaves_out : FileKind → Bool
+leaves_out Rsdp = true
+leaves_out Facs = true
+leaves_out Cdat = false
+leaves_out S3pt = false
+leaves_out Table = false
+
+-- whether bytes are left out: they are such a table, and no dump or text
+abbrev pub is_left_out : List ℕ → Bool
+is_left_out bytes = is_none (another_of bytes) && leaves_out (kind_of bytes)
 
 -- the line of such a file
 abbrev pub left_out_line : List ℕ → List ℕ
@@ -33,14 +38,14 @@ left_out_line path = path ++ codes ": note: left out, as Linux takes no RSDP and
 
 -- the bytes of a file of this path are a table with the standard header: its name and its bytes
 pub record IsTableOf (path bytes : List ℕ) (table : List ℕ × List ℕ) (err err' : Option (List ℕ)) : Type 0 where
-  pub taken : is_left_out (kind_of bytes) ≡ false
+  pub taken : is_left_out bytes ≡ false
   pub are : table ≡ (name_of path, bytes)
   pub is : IsHeaded bytes
   pub silent : Keeps err err'
 
 -- the file is left out, and a line says so
 pub record IsLeftOut (path bytes : List ℕ) (err err' : Option (List ℕ)) : Type 0 where
-  pub left_out : is_left_out (kind_of bytes) ≡ true
+  pub left_out : is_left_out bytes ≡ true
   pub told : Appends err err' (left_out_line path)
 
 abbrev pub HasTable : List ℕ → List ℕ → Option (List ℕ × List ℕ) → Option (List ℕ) → Option (List ℕ) → Type 0
@@ -68,7 +73,7 @@ AreRead (path ∷ paths) tables err err' = ReadThen path (AreRead paths) tables 
 
 -- the bytes of a file are no table, and a line says why
 pub record HasNoTable (path bytes : List ℕ) (err err' : Option (List ℕ)) (status : ℕ) : Type 0 where
-  pub taken : is_left_out (kind_of bytes) ≡ false
+  pub taken : is_left_out bytes ≡ false
   pub fault : Fault
   pub cause : IsNoTable bytes fault
   pub complained : Appends err err' (path ++ codes ": " ++ line_of fault ++ 10 ∷ [])

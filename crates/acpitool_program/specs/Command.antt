@@ -173,7 +173,7 @@ abbrev pub without_prefix : List ℕ → List ℕ
 without_prefix word =
     if starts_with nat_eq word (codes "0x") || starts_with nat_eq word (codes "0X") then drop 2 word else word
 
--- the digits of an address: all of the word, or those after `0x`
+-- the digits of an address: all of the word, or those after `0x` or `0X`, without a plus sign before them
 abbrev pub address_digits : List ℕ → List ℕ
 address_digits word = without_leading_plus (without_prefix word)
 

@@ -198,7 +198,8 @@ AreEach _ _ = ⊥
 pub record AreOfTables (tables : List (List ℕ × List ℕ)) (outcomes : List Outcome) : Type 0 where
   pub each : AreEach tables outcomes
 
--- the name of a table of a dump: that of the file, and the table's title, in which a question mark stands for what doesn't print
+-- the name of a table of a dump or an image: that of the file, and the table's title, in which a question mark stands for what
+-- doesn't print
 abbrev pub label : List ℕ → List ℕ → List ℕ
 label name title = name ++ codes ": " ++ map printable title
 

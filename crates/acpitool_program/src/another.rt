@@ -44,7 +44,7 @@ fn is_text_byte(byte: u8) -> bool
     prints(byte) || byte == b'\t' || byte == b'\n' || byte == b'\r'
 }
 
-// Returns whether all bytes are.
+// Returns whether all bytes are characters that print, tabs or ends of lines.
 fn are_text_bytes(bytes: &[u8]) -> bool
     ensures { result ≡ are_text_bytes bytes.now }
 {

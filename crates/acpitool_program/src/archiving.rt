@@ -4,11 +4,13 @@ ghost use Rattle.std.specs.Prelude.{false, ◌≡◌, ◌⊎◌, ◌++◌, map, 
 ghost use Rattle.std.specs.Io.KnownBytes.{Appends};
 ghost use Rattle.std.specs.Option.{option_map, option_to_list};
 ghost use Rattle.acpi_cpio.specs.Archive.{named, tables_archive};
-ghost use Rattle.acpitool_program.specs.Archiving.{name_of, is_left_out, left_out_line, HasTable, HasNoTable, IsRead, AreRead};
+ghost use Rattle.acpitool_program.specs.Archiving.{name_of, leaves_out, is_left_out, left_out_line, HasTable, HasNoTable};
+ghost use Rattle.acpitool_program.specs.Archiving.{IsRead, AreRead};
 ghost use Rattle.acpitool_program.specs.Archiving.{IsRefused, AreRefused, DontFit, ArchivesFiles, Archives};
 ghost use Rattle.acpitool_program.specs.Making.{IsWritten};
 ghost use Rattle.acpitool_program.specs.Replaced.{is_path_among};
 
+use crate::another::another_of;
 use crate::complaint::complain;
 use crate::files::{files_in, is_among, read_file};
 use crate::headed::headed;
@@ -44,14 +46,21 @@ fn archived(alloc: Global, path: &str, bytes: Vec<u8>) -> Result<ArchivedFile, A
     })
 }
 
-// Returns whether Linux takes no file of a kind from its initrd.
-fn is_left_out(kind: FileKind) -> bool
-    ensures { result ≡ is_left_out kind }
+// Returns whether Linux takes no table of a kind from its initrd.
+fn leaves_out(kind: FileKind) -> bool
+    ensures { result ≡ leaves_out kind }
 {
     match kind {
         FileKind::Rsdp | FileKind::Facs => true,
         FileKind::Table | FileKind::Cdat | FileKind::S3pt => false,
     }
+}
+
+// Returns whether bytes are left out: they are such a table, and no dump or text.
+fn is_left_out(bytes: &[u8]) -> bool
+    ensures { result ≡ is_left_out bytes.now }
+{
+    another_of(bytes).is_none() && leaves_out(kind_of(bytes))
 }
 
 // Prints that a file is left out.
@@ -76,7 +85,7 @@ fn table_of<E: Write>(
         (λ table. HasTable path.now bytes.items (option_map named table) (E.contents err.old) (E.contents err.new))
         (λ status. HasNoTable path.now bytes.items (E.contents err.old) (E.contents err.new) status)) }
 {
-    if is_left_out(kind_of(&bytes)) {
+    if is_left_out(&bytes) {
         tell_left_out(path, err)?;
         return Ok(Ok(None));
     }

@@ -23,13 +23,13 @@ pub enum Command<'a> {
     Help,
     /// `--version`: its version.
     Version,
-    /// `show [--no-offsets|--bytes] FILE .. [NAME=N ..]`: the texts of tables in files, in folders, or on standard input where
-    /// the word is `-`, and the words that state numbers of arguments.
+    /// `show [--no-offsets|--bytes] FILE .. [NAME=N ..]`: the texts of tables in files, in folders, in images FILE@BASE, or on
+    /// standard input where the word is `-`, and the words that state numbers of arguments.
     Show(Style, &'a [String], &'a [String]),
     /// `show --json FILE ..`: these tables as JSON.
     Json(&'a [String]),
-    /// `check [--json] FILE ..`: the rules that tables in files, in folders, or on standard input where the word is `-`, break.
-    /// `--json` is there or not.
+    /// `check [--json] FILE ..`: the rules that tables in files, in folders, in images FILE@BASE, or on standard input where the
+    /// word is `-`, break. `--json` is there or not.
     Check(bool, &'a [String]),
     /// `image [--json] FILE [BASE]`: the tables of an image in a file, or on standard input where the word is `-`. It begins at
     /// the physical address BASE in hexadecimal, or at 0. `--json` is there or not.
@@ -61,8 +61,8 @@ pub enum Command<'a> {
     Repair(&'a str, &'a str),
     /// `diff FILE FILE`: the fields in which the tables in two files differ, or on standard input where a word is `-`.
     Diff(&'a str, &'a str),
-    /// `tree [--dot] FILE`: the structures of the table in a file, or on standard input where the word is `-`, as a tree. With
-    /// `--dot` they are a graph.
+    /// `tree [--dot] FILE`: the structures of the table in a file, or on standard input where the word is `-`, or the tables of an
+    /// image FILE@BASE, as a tree. With `--dot` they are a graph.
     Tree(bool, &'a str),
 }
 

@@ -2,8 +2,9 @@
 
 ghost use Rattle.std.specs.Prelude.{◌≡◌, IfOk, IfErr};
 ghost use Rattle.std.specs.Option.{option_map};
-ghost use Rattle.acpitool_program.specs.Headed.{headless, IsHeaded, IsNoTable};
+ghost use Rattle.acpitool_program.specs.Headed.{headless, IsHeaded, IsHeadlessFault, IsNoTable};
 
+use crate::another::another_of;
 use crate::fault::Fault;
 use acpi_forms::kind::kind_of;
 use acpi_make::file_kind::FileKind;
@@ -22,6 +23,22 @@ fn headless(kind: FileKind) -> Option<&'static str>
     }
 }
 
+// Returns the fault of bytes that have no standard header by their signature: they are a dump or a text, or these words say why.
+fn headless_fault(words: &'static str, bytes: &[u8]) -> Fault
+    ensures { IsHeadlessFault words.now bytes.now result }
+{
+    match another_of(bytes) {
+        Some(another) => Fault {
+            place: None,
+            words: another.words(),
+        },
+        None => Fault {
+            place: Some(0),
+            words,
+        },
+    }
+}
+
 /// Returns the table with the standard header that bytes are. An error says what is wrong with the bytes, and where.
 pub fn headed(bytes: &[u8]) -> Result<Table<'_>, Fault>
     ensures ok { IfOk result (λ _. IsHeaded bytes.now) }
@@ -29,10 +46,7 @@ pub fn headed(bytes: &[u8]) -> Result<Table<'_>, Fault>
     ensures err { IfErr result (IsNoTable bytes.now) }
 {
     if let Some(words) = headless(kind_of(bytes)) {
-        return Err(Fault {
-            place: Some(0),
-            words,
-        });
+        return Err(headless_fault(words, bytes));
     }
     match Table::check(bytes) {
         Ok(table) => Ok(table),

@@ -118,7 +118,8 @@ not all structures can be found.
 
 The status is 0 if everything is shown or written, 1 if something isn't a table, an image or a text of a table,
 its structures, terms or numbers are wrong, a table breaks a rule, two tables differ, tables have no image, no table has
-the signature, or output can't be written, and 2 if a file can't be read or the words are wrong.
+the signature, or output can't be written, and 2 if a file or a folder can't be read, a folder has no files, or the
+words are wrong.
 ";
 
 const VERSION: &str = "acpitool 0.1.0\n";

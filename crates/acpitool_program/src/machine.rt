@@ -14,7 +14,7 @@ use std::io::Write;
 /// A table that was gathered or checked.
 #[derive(Debug, Drop)]
 pub struct Kept {
-    /// The name of its file, for a table of a dump with its title.
+    /// The name of its file, and of a table of a dump or an image also its title.
     pub name: String,
     /// Its bytes.
     pub bytes: Vec<u8>,

@@ -165,7 +165,7 @@ pub fn tell_replaced<E: Write>(what: &str, file: &str, err: &mut E) -> io::Resul
     Ok(1)
 }
 
-// Returns the name of a table of a dump: that of the file, and the table's title.
+// Returns the name of a table of a dump or an image: that of the file, and the table's title.
 fn label(alloc: Global, name: &str, title: &[u8]) -> Result<String, AllocError>
     ensures { IfOk result (λ text. string_bytes text ≡ label name.now title.now) }
 {

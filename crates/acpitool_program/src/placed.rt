@@ -10,7 +10,7 @@ use std::rt::Files;
 /// An image in a file.
 #[derive(Clone, Copy, Debug)]
 pub struct Placed<'a> {
-    /// The name of the file, or `-` for standard input.
+    /// The name of the file. It isn't `-`: a word that begins with a dash and has more is an option.
     pub file: &'a str,
     /// The physical address of the first byte.
     pub base: u64,

@@ -1,5 +1,6 @@
 //! ACPI tables and AML by a library that is proved: checks of tables, AML and images, texts of tables, and a writer of AML and of
-//! tables. The work is done by `libhyssop.a`; this crate has no logic but the caller's buffers, which grow as far as they have to.
+//! tables. The work is done by `libhyssop.a`. This crate grows the buffers, and ends texts with a zero. The modules of
+//! `acpi_tables` also work out flags, offsets, counts and matrices.
 //!
 //! ```
 //! use hyssop_acpi::{Writer, check_table};

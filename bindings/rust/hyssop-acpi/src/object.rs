@@ -48,8 +48,8 @@ impl AmlSink for Vec<u8> {
 
 /// An object of AML, a table or a structure, which writes its bytes.
 pub trait Aml {
-    /// Writes the bytes. It panics if the object has no bytes by the standard: a path of no four characters, an argument past 6,
-    /// or a length that doesn't fit.
+    /// Writes the bytes. It panics if the object has no bytes by the standard: a path with a part that hasn't four characters, an
+    /// argument past 6, or a length that doesn't fit.
     fn to_aml_bytes(&self, sink: &mut dyn AmlSink);
 }
 

@@ -32,6 +32,8 @@ pub enum RegionSpace {
     Ipmi = 7,
     GeneralPurposeIo = 8,
     GenericSerialBus = 9,
+    Pcc = 10,
+    PlatformRtMechanism = 11,
 }
 
 /// The width of the accesses to a field (ACPI 6.5, 20.2.5.2, AccessType).
@@ -55,7 +57,8 @@ pub enum Update {
     WriteAsZeroes = 2,
 }
 
-/// The operators (ACPI 6.5, 20.2.5), by their names in ASL. The number is the opcode (20.3).
+/// The operators (ACPI 6.5, 20.2.5), by their names in ASL, but for `DataRegion`, which is DataTableRegion there. The number is the
+/// opcode (20.3). A MatchOpcode of `Match` is a byte, which `bytes` writes.
 #[repr(u32)]
 #[derive(Clone, Copy, Debug, PartialEq, Eq)]
 pub enum Op {
@@ -135,7 +138,7 @@ pub enum Op {
 
 /// A writer of AML (ACPI 6.5, 20), or of a table. Its bytes grow as far as they have to. No call returns a `Result`: the writer
 /// keeps its first error, later calls do nothing, and `finish` returns it. A call that opens an object takes what is written
-/// inside of it, so each object is closed.
+/// inside of it, so each object is closed. A text with a zero inside is the fault `TEXT`, whose words speak of another cause.
 #[derive(Clone, Debug)]
 pub struct Writer {
     bytes: Vec<u8>,
@@ -458,7 +461,7 @@ impl Writer {
         })
     }
 
-    /// Declares an object of another block (ACPI 6.5, 20.2.5.1, DefExternal): its type (19.6.46), and how many arguments it has
+    /// Declares an object of another block (ACPI 6.5, 20.2.5.2, DefExternal): its type (19.6.45), and how many arguments it has
     /// as a method.
     pub fn external(&mut self, path: &str, kind: u8, arguments: u8) -> &mut Writer {
         self.with_text(path, |writer, path| {
