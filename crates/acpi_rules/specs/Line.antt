@@ -81,9 +81,20 @@ range_text least most =
     else (if most == 0xffffffffffffffff then least_text least
     else codes " has to be from " ++ decimal least ++ codes " to " ++ decimal most)
 
+-- the words before and after the number of bytes that entries don't fit
+unfoldable pub misfit_text : List ℕ
+misfit_text = codes " doesn't fit the "
+
+unfoldable pub bytes_text : List ℕ
+bytes_text = codes " bytes that are there"
+
 -- that a number of entries doesn't fit this many bytes
 abbrev pub room_text : ℕ → List ℕ
-room_text room = codes " doesn't fit the " ++ decimal room ++ codes " bytes that are there"
+room_text room = misfit_text ++ decimal room ++ bytes_text
+
+-- of which structures a reference isn't the number
+unfoldable pub target_text : List ℕ
+target_text = codes " of a structure to which it may refer"
 
 -- what a finding on two fields says of the bytes of its field
 abbrev pub pair_text : Rule → ℕ → ℕ → List ℕ → List ℕ
@@ -127,7 +138,7 @@ relates_text Disjoint number most other =
     codes " with " ++ label other ++ codes ": also at " ++ decimal number
 relates_text Count number most other = room_text most
 relates_text Multiple number most other = codes " isn't n * " ++ decimal number
-relates_text Reference number most other = codes " isn't the " ++ label other ++ codes " of a structure to which it may refer"
+relates_text Reference number most other = codes " isn't the " ++ label other ++ target_text
 relates_text Cycle number most other = codes " leads to a circle"
 relates_text Present number most other = absent_text other
 relates_text Defined number most other = codes " isn't any " ++ label other

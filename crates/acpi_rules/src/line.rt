@@ -2,7 +2,8 @@
 
 ghost use Rattle.std.specs.Prelude.{◌≡◌, ◌++◌, OnOk, string_bytes};
 ghost use Rattle.acpi_rules.specs.Finding.{noted};
-ghost use Rattle.acpi_rules.specs.Line.{standard_tables, contains, severity, rule_name, hex_text, one_text};
+ghost use Rattle.acpi_rules.specs.Line.{standard_tables, contains, severity, rule_name, hex_text, one_text, least_text};
+ghost use Rattle.acpi_rules.specs.Line.{misfit_text, bytes_text, room_text, target_text};
 ghost use Rattle.acpi_rules.specs.Line.{reserved_text, range_text, pair_text, own_text, below_text, limit_text};
 ghost use Rattle.acpi_rules.specs.Line.{machine_text, tables_text, absent_text, relates_text};
 ghost use Rattle.acpi_rules.specs.Line.{says, field_text, source_text, finding_text};
@@ -127,13 +128,37 @@ fn push_range(least: u64, most: u64, text: &mut String) -> Result<(), AllocError
     text.push_str(Buffer::new().format(most))
 }
 
+// Adds the words before the number of bytes that entries don't fit.
+#[tactic(auto, unfolding(crate::specs::Line::misfit_text))]
+fn push_misfit(text: &mut String) -> Result<(), AllocError>
+    ensures { OnOk result (string_bytes text.new ≡ string_bytes text.old ++ misfit_text) }
+{
+    text.push_str(" doesn't fit the ")
+}
+
+// Adds the words after it.
+#[tactic(auto, unfolding(crate::specs::Line::bytes_text))]
+fn push_there(text: &mut String) -> Result<(), AllocError>
+    ensures { OnOk result (string_bytes text.new ≡ string_bytes text.old ++ bytes_text) }
+{
+    text.push_str(" bytes that are there")
+}
+
 // Adds that a number of entries doesn't fit this many bytes.
 fn push_room(room: u64, text: &mut String) -> Result<(), AllocError>
     ensures { OnOk result (string_bytes text.new ≡ string_bytes text.old ++ room_text room) }
 {
-    text.push_str(" doesn't fit the ")?;
+    push_misfit(text)?;
     text.push_str(Buffer::new().format(room))?;
-    text.push_str(" bytes that are there")
+    push_there(text)
+}
+
+// Adds of which structures a reference isn't the number.
+#[tactic(auto, unfolding(crate::specs::Line::target_text))]
+fn push_target(text: &mut String) -> Result<(), AllocError>
+    ensures { OnOk result (string_bytes text.new ≡ string_bytes text.old ++ target_text) }
+{
+    text.push_str(" of a structure to which it may refer")
 }
 
 // Adds that a number is reserved.
@@ -273,7 +298,7 @@ fn push_relates(
         Rule::Reference => {
             text.push_str(" isn't the ")?;
             push_label(other, text)?;
-            text.push_str(" of a structure to which it may refer")
+            push_target(text)
         }
         Rule::Cycle => text.push_str(" leads to a circle"),
         Rule::Present => push_absent(other, text),
