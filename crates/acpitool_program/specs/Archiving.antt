@@ -29,7 +29,7 @@ leaves_out S3pt = false
 leaves_out Table = false
 
 -- whether bytes are left out: they are such a table, and no dump or text
-abbrev pub is_left_out : List ℕ → Bool
+unfoldable pub is_left_out : List ℕ → Bool
 is_left_out bytes = is_none (another_of bytes) && leaves_out (kind_of bytes)
 
 -- the line of such a file

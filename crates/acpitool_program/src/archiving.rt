@@ -57,6 +57,7 @@ fn leaves_out(kind: FileKind) -> bool
 }
 
 // Returns whether bytes are left out: they are such a table, and no dump or text.
+#[tactic(auto, unfolding(crate::specs::Archiving::is_left_out))]
 fn is_left_out(bytes: &[u8]) -> bool
     ensures { result ≡ is_left_out bytes.now }
 {
