@@ -195,7 +195,18 @@ wanted = [(constant(name), number, words) for name, number, words in rows]
 compare("hyssop.h", "fault", wanted, re.findall(r"^ +HYSSOP_FAULT_(\w+) = (\d+),? /\* (.*) \*/$", header, re.M))
 compare("docs/C.md", "fault", wanted, re.findall(r"^\| `(\w+)` \| (\d+) \| (.*?) \|", read("docs/C.md"), re.M))
 pairs = [(name, number) for name, number, _ in wanted]
-compare("hyssop.rs", "fault", pairs, re.findall(r"^ +pub const (\w+): u32 = (\d+);$", rust, re.M))
+
+
+def constants(module):
+    """The constants of a module of hyssop.rs."""
+    body = re.search(rf"pub mod {module} {{\n(.*?)\n}}\n", rust, re.S)[1]
+    return re.findall(r"^    pub const (\w+): u\d+ = (\w+);$", body, re.M)
+
+
+compare("hyssop.rs", "fault", pairs, constants("fault"))
+for module in ("memory", "space", "access", "update", "op"):
+    wanted = re.findall(rf"\bHYSSOP_{module.upper()}_(\w+) = (\w+)", header)
+    compare("hyssop.rs", f"constant of `{module}`", wanted, constants(module))
 
 version = re.search(r"pub fn version\(\)[^{]*{ [^}]*}\s*{\s*(\d+)\s*}", read(f"{RUN}/names.rt"))[1]
 if f"#define HYSSOP_VERSION {version}\n" not in header:

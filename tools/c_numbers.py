@@ -2,7 +2,7 @@
 """Holds the numbers that callers in C and Rust compile in against those that they had before.
 
 tools/c_numbers.py c        prints a program in C that compiles if hyssop.h has the numbers of crates/acpi_c/tests/numbers.txt
-tools/c_numbers.py rust     prints one in Rust, for hyssop.rs: its faults, and the sizes of its structs
+tools/c_numbers.py rust     prints one in Rust, for hyssop.rs: its constants, and the sizes of its structs
 tools/c_numbers.py missing  prints each number of hyssop.h that isn't in the list, and then its status is 1
 
 A line of the list is a constant and its number, `sizeof` and a struct and its size in bytes, or `offsetof`, a struct, a field and
@@ -40,8 +40,8 @@ def program_in_rust():
         if line[0] == "sizeof":
             name = "".join(it.capitalize() for it in line[1].removeprefix("hyssop_").split("_"))
             print(f"const _: () = assert!(size_of::<hyssop::{name}>() == {line[2]});")
-        elif line[0].startswith("HYSSOP_FAULT_"):
-            print(f"const _: () = assert!(hyssop::fault::{line[0].removeprefix('HYSSOP_FAULT_')} == {line[1]});")
+        elif match := re.fullmatch(r"HYSSOP_(FAULT|MEMORY|SPACE|ACCESS|UPDATE|OP)_(\w+)", line[0]):
+            print(f"const _: () = assert!(hyssop::{match[1].lower()}::{match[2]} == {line[1]});")
         elif line[0] in ("HYSSOP_FINE", "HYSSOP_DEPTH"):
             print(f"const _: () = assert!(hyssop::{line[0].removeprefix('HYSSOP_')} == {line[1]});")
 

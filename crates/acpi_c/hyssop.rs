@@ -97,6 +97,119 @@ pub mod fault {
     pub const OUTSIDE: u32 = 112;
 }
 
+/// The types of memory of address space descriptors (ACPI 6.5, 6.4.3.5).
+pub mod memory {
+    pub const NOT_CACHEABLE: u32 = 0;
+    pub const CACHEABLE: u32 = 1;
+    pub const WRITE_COMBINING: u32 = 2;
+    pub const PREFETCHABLE: u32 = 3;
+}
+
+/// The address spaces of regions and registers (ACPI 6.5, 20.2.5.2, RegionSpace). Other numbers are allowed, too.
+pub mod space {
+    pub const SYSTEM_MEMORY: u8 = 0;
+    pub const SYSTEM_IO: u8 = 1;
+    pub const PCI_CONFIG: u8 = 2;
+    pub const EMBEDDED_CONTROL: u8 = 3;
+    pub const SMBUS: u8 = 4;
+    pub const SYSTEM_CMOS: u8 = 5;
+    pub const PCI_BAR_TARGET: u8 = 6;
+    pub const IPMI: u8 = 7;
+    pub const GENERAL_PURPOSE_IO: u8 = 8;
+    pub const GENERIC_SERIAL_BUS: u8 = 9;
+}
+
+/// The widths of the accesses to a field (ACPI 6.5, 20.2.5.2, AccessType).
+pub mod access {
+    pub const ANY: u32 = 0;
+    pub const BYTE: u32 = 1;
+    pub const WORD: u32 = 2;
+    pub const DWORD: u32 = 3;
+    pub const QWORD: u32 = 4;
+    pub const BUFFER: u32 = 5;
+}
+
+/// What a write does with the other bits of an access (ACPI 6.5, 20.2.5.2, UpdateRule).
+pub mod update {
+    pub const PRESERVE: u32 = 0;
+    pub const WRITE_AS_ONES: u32 = 1;
+    pub const WRITE_AS_ZEROES: u32 = 2;
+}
+
+/// The operators (ACPI 6.5, 20.2.5), by their opcodes (20.3). `hyssop.h` says how operands follow.
+pub mod op {
+    pub const LNOT: u32 = 0x92;
+    pub const LEQUAL: u32 = 0x93;
+    pub const LLESS: u32 = 0x95;
+    pub const LGREATER: u32 = 0x94;
+    pub const LAND: u32 = 0x90;
+    pub const LOR: u32 = 0x91;
+    pub const INCREMENT: u32 = 0x75;
+    pub const DECREMENT: u32 = 0x76;
+    pub const BREAK: u32 = 0xa5;
+    pub const OBJECTTYPE: u32 = 0x8e;
+    pub const SIZEOF: u32 = 0x87;
+    pub const RETURN: u32 = 0xa4;
+    pub const DEREFOF: u32 = 0x83;
+    pub const ADD: u32 = 0x72;
+    pub const CONCAT: u32 = 0x73;
+    pub const SUBTRACT: u32 = 0x74;
+    pub const MULTIPLY: u32 = 0x77;
+    pub const SHIFTLEFT: u32 = 0x79;
+    pub const SHIFTRIGHT: u32 = 0x7a;
+    pub const AND: u32 = 0x7b;
+    pub const NAND: u32 = 0x7c;
+    pub const OR: u32 = 0x7d;
+    pub const NOR: u32 = 0x7e;
+    pub const XOR: u32 = 0x7f;
+    pub const CONCATRES: u32 = 0x84;
+    pub const MOD: u32 = 0x85;
+    pub const INDEX: u32 = 0x88;
+    pub const TOSTRING: u32 = 0x9c;
+    pub const CREATEDWORDFIELD: u32 = 0x8a;
+    pub const CREATEQWORDFIELD: u32 = 0x8f;
+    pub const TOBUFFER: u32 = 0x96;
+    pub const TOINTEGER: u32 = 0x99;
+    pub const STORE: u32 = 0x70;
+    pub const NOTIFY: u32 = 0x86;
+    pub const MID: u32 = 0x9e;
+    pub const ALIAS: u32 = 0x06;
+    pub const REFOF: u32 = 0x71;
+    pub const DIVIDE: u32 = 0x78;
+    pub const NOT: u32 = 0x80;
+    pub const FINDSETLEFTBIT: u32 = 0x81;
+    pub const FINDSETRIGHTBIT: u32 = 0x82;
+    pub const MATCH: u32 = 0x89;
+    pub const CREATEWORDFIELD: u32 = 0x8b;
+    pub const CREATEBYTEFIELD: u32 = 0x8c;
+    pub const CREATEBITFIELD: u32 = 0x8d;
+    pub const TODECIMALSTRING: u32 = 0x97;
+    pub const TOHEXSTRING: u32 = 0x98;
+    pub const COPYOBJECT: u32 = 0x9d;
+    pub const CONTINUE: u32 = 0x9f;
+    pub const NOOP: u32 = 0xa3;
+    pub const BREAKPOINT: u32 = 0xcc;
+    pub const CREATEFIELD: u32 = 0x5b13;
+    pub const EVENT: u32 = 0x5b02;
+    pub const CONDREFOF: u32 = 0x5b12;
+    pub const LOADTABLE: u32 = 0x5b1f;
+    pub const LOAD: u32 = 0x5b20;
+    pub const STALL: u32 = 0x5b21;
+    pub const SLEEP: u32 = 0x5b22;
+    pub const SIGNAL: u32 = 0x5b24;
+    pub const WAIT: u32 = 0x5b25;
+    pub const RESET: u32 = 0x5b26;
+    pub const FROMBCD: u32 = 0x5b28;
+    pub const TOBCD: u32 = 0x5b29;
+    pub const UNLOAD: u32 = 0x5b2a;
+    pub const REVISION: u32 = 0x5b30;
+    pub const DEBUG: u32 = 0x5b31;
+    pub const TIMER: u32 = 0x5b33;
+    pub const DATAREGION: u32 = 0x5b88;
+    pub const ACQUIRE: u32 = 0x5b23;
+    pub const RELEASE: u32 = 0x5b27;
+}
+
 /// A structure of a table: its offset in the table, its type or `NO_KIND`, and the number of its bytes.
 #[repr(C)]
 #[derive(Clone, Copy, Debug, Default, PartialEq, Eq)]
