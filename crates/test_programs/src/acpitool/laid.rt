@@ -170,6 +170,7 @@ fn not_saved_apart(rt: HostRuntime) -> Result<(), Fail> {
     let line = "two_files/dsdt.rsdp: the RSDP would replace a table\n";
     let words = ["lay", "--rsdp", "e0000", "two_files", "two_files/dsdt", "0"];
     ends(&rt, &words, 1, &[], &[line])?;
+    let line = "two_files/dsdt.rsdp: the image would replace a table\n";
     let words = [
         "lay",
         "--rsdp",
