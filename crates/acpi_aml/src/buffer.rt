@@ -77,7 +77,7 @@ fn number_bytes(value: u64) -> ([u8; 9], usize)
     }
 }
 
-/// A buffer of resource descriptors and an end tag (ACPI 6.5, 19.6.120 and 6.4.2.9).
+/// A buffer of resource descriptors and an end tag (ACPI 6.5, 19.6.117 and 6.4.2.9).
 pub type ResourceTemplate = Written<ResourceDescriptors>;
 
 pub struct ResourceDescriptors;

@@ -34,7 +34,7 @@ size_number sizes.WordAccess = 2
 size_number sizes.DwordAccess = 3
 size_number sizes.QwordAccess = 4
 
--- the words of address spaces, as ASL has them (ACPI 6.5, 19.6.114, Region)
+-- the words of address spaces, as ASL has them (ACPI 6.5, 19.6.114, Register)
 abbrev pub address_spaces : List (ℕ × List ℕ)
 address_spaces =
     means 0x00 "SystemMemory"
