@@ -1,5 +1,5 @@
-//! Declarations of `libhyssop.a` for Rust, of every edition from Rust 1.82 on. `include/hyssop.h` says what each function does, and
-//! what its caller owes.
+//! Declarations of `libhyssop.a` for Rust, of every edition from Rust 1.82 on. `include/hyssop.h` says what each function does,
+//! and what its caller owes.
 #![allow(dead_code)]
 
 use std::ffi::{c_char, c_int};

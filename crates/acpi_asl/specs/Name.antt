@@ -19,7 +19,8 @@ second b c d = if b == 95 && c == 95 && d == 95 then [] else printable b ∷ thi
 abbrev pub kept_segments : List (List ℕ)
 kept_segments =
     codes "IF__" ∷ codes "OR__" ∷ codes "ADD_" ∷ codes "AND_" ∷ codes "FOR_" ∷ codes "LOR_" ∷ codes "MEQ_" ∷ codes "MGE_"
-    ∷ codes "MGT_" ∷ codes "MID_" ∷ codes "MLE_" ∷ codes "MLT_" ∷ codes "MOD_" ∷ codes "MTR_" ∷ codes "NOR_" ∷ codes "NOT_" ∷ codes "ONE_"
+    ∷ codes "MGT_" ∷ codes "MID_" ∷ codes "MLE_" ∷ codes "MLT_" ∷ codes "MOD_" ∷ codes "MTR_" ∷ codes "NOR_" ∷ codes "NOT_"
+    ∷ codes "ONE_"
     ∷ codes "PCC_" ∷ codes "XOR_" ∷ []
 
 abbrev pub is_among : List (List ℕ) → List ℕ → Bool

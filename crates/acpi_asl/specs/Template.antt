@@ -12,7 +12,7 @@ use Rattle.acpi_asl.specs.Content.{value_of, digits_at, are_zero, offset_of, bet
 use Rattle.acpi_asl.specs.Descriptor.{words, Row, facts, descriptors}
 use Rattle.acpi_asl.specs.Number.{upper_digit, hex, string_text}
 use Rattle.acpi_asl.specs.Place.{new_line}
-use Rattle.acpi_asl.specs.Word.{word_in}
+use Rattle.acpi_terms_text.specs.Word.{word_in}
 use Rattle.acpi_terms_text.specs.Descriptor.{item_size}
 
 -- ---- the arguments of a macro

@@ -1,7 +1,8 @@
 -- The words of ASL (ACPI 6.5, 19.2 and 19.6).
-use Rattle.std.specs.Prelude.{ℕ, ◌==◌, Bool, if◌then◌else◌, List, [], ◌∷◌, codes}
+use Rattle.std.specs.Prelude.{ℕ, Bool, if◌then◌else◌, List, [], ◌∷◌, codes}
 use Rattle.acpi_term.specs.declared.op.Op.{Op}
 use Rattle.acpi_term.specs.declared.op.Op.TheVariants as op
+use Rattle.acpi_terms_text.specs.Word.{word_in}
 use Rattle.acpi_asl.specs.Number.{hex}
 use Rattle.acpi_asl.specs.declared.word.Keyword.{Keyword}
 use Rattle.acpi_asl.specs.declared.word.Keyword.TheVariants.{AccessType, AccessAttribute, ExtendedAttribute, LockRule}
@@ -82,11 +83,6 @@ operator_word op.Acquire = codes "Acquire"
 operator_word op.Release = codes "Release"
 
 -- ---- keywords of numbers (ACPI 6.5, 19.2.7)
-
--- the word in the first row with a number, or nothing
-abbrev pub word_in : List (ℕ × List ℕ) → ℕ → List ℕ
-word_in [] n = []
-word_in (row ∷ rows) n = if row.0 == n then row.1 else word_in rows n
 
 -- a word, or the number where it has none
 abbrev pub or_number : ℕ → List ℕ → List ℕ

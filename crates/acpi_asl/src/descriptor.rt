@@ -98,7 +98,8 @@ pub enum Check {
     Pairs(Offset, Offset),
     /// From one offset to another there are ASCII characters, and then one zero as the last byte.
     Text(Offset, Offset),
-    /// The descriptor ends at the offset, or an index of one byte is there, then ASCII characters, then one zero as the last byte.
+    /// The descriptor ends at the offset, or an index of one byte is there, then ASCII characters, then one zero as the last
+    /// byte.
     Source(Offset),
 }
 

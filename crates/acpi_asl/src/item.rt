@@ -8,7 +8,7 @@ ghost use Rattle.acpi_asl.specs.Number.{hex, string_text};
 ghost use Rattle.acpi_asl.specs.Template.{tag_text, part_text, comma, parts_text, row_text};
 ghost use Rattle.acpi_terms_text.specs.Descriptor.{item_size};
 ghost use Rattle.acpi_asl.specs.Template.{part_fits, parts_fit, fits, found_in, found, is_found, found_text};
-ghost use Rattle.acpi_asl.specs.Word.{word_in};
+ghost use Rattle.acpi_terms_text.specs.Word.{word_in};
 
 use crate::content::{
     all_hold, are_zero, between, byte_at, offset_of, push_number_at, source_at, up_to_zero,
@@ -18,8 +18,8 @@ use crate::descriptor::{Bits, Offset, Part, WordKind, words};
 use crate::list::{push_comma, push_tail};
 use crate::macros::{Descriptor, checks_left, descriptors, macro_opening, parts, tail};
 use crate::number::{push_hex, push_string, upper_digit};
-use crate::word::word_in;
 use acpi_terms_text::descriptor::item_size;
+use acpi_terms_text::word::word_in;
 use std::alloc::AllocError;
 
 // The word of bits, or an empty one.

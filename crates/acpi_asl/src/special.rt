@@ -11,7 +11,6 @@ ghost use Rattle.acpi_asl.specs.Special.{block_note, externals_text, is_shortest
 ghost use Rattle.acpi_asl.specs.Special.{is_template_buffer, is_uuid, is_id_number};
 ghost use Rattle.acpi_asl.specs.Special.{to_uuid, is_special, special_text};
 ghost use Rattle.acpi_asl.specs.Template.{template_text};
-ghost use Rattle.acpi_terms_text.specs.Scoped.{is_unread};
 
 use crate::eisa::{is_eisa, push_eisa};
 use crate::number::least_bytes;
@@ -21,6 +20,7 @@ use crate::template::{is_template, push_template};
 use crate::unread::push_unread;
 use acpi_term::apart::{Kind, Parts, parts_of};
 use acpi_term::term::Term;
+use acpi_terms_text::scoped::is_unread;
 use acpi_terms_text::uuid::push_uuid;
 use std::alloc::AllocError;
 
@@ -245,15 +245,6 @@ fn is_id_number(place: Place, kind: Kind<'_>, width: u8) -> bool
 {
     match kind {
         Kind::Number(value) => place.ids && is_eisa(width, value),
-        _ => false,
-    }
-}
-
-fn is_unread(kind: Kind<'_>) -> bool
-    ensures { result ≡ is_unread (head_of kind.entry) }
-{
-    match kind {
-        Kind::Unread(..) => true,
         _ => false,
     }
 }

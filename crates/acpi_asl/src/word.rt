@@ -1,10 +1,11 @@
 //! The words of ASL (ACPI 6.5, 19.2 and 19.6).
 
 ghost use Rattle.std.specs.Prelude.{◌≡◌, ◌++◌, map, OnOk, string_bytes};
-ghost use Rattle.acpi_asl.specs.Word.{operator_word, word_in, words_of, keyword_text, serialize_word};
+ghost use Rattle.acpi_asl.specs.Word.{operator_word, words_of, keyword_text, serialize_word};
 
 use crate::number::push_hex;
 use acpi_term::op::Op;
+use acpi_terms_text::word::word_in;
 use std::alloc::AllocError;
 
 /// The word of an operator.
@@ -178,18 +179,6 @@ const MATCH_OPERATORS: [(u8, &str); 6] = [
     (4, "MGE"),
     (5, "MGT"),
 ];
-
-/// Returns the word in the first row with a number, or an empty one.
-pub fn word_in(rows: &[(u8, &'static str)], number: u8) -> &'static str
-    ensures { result.now ≡ word_in (map (λ row. (row.0, row.1.now)) rows.now) number }
-{
-    'rows: for row in rows {
-        if row.0 == number {
-            return row.1;
-        }
-    }
-    ""
-}
 
 /// Returns the words of a kind, each with its number.
 pub fn rows_of(keyword: Keyword) -> &'static [(u8, &'static str)]

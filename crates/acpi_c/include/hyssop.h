@@ -12,8 +12,8 @@
      hyssop_names_among and hyssop_compile, and 128 KiB for every other function.
 
    Nothing is kept between calls, and several threads may call at once. What is found is written to the front of `out`, and *size
-   or *count is how much that is. Texts have no zero at their end. If more is found than fits, the result is HYSSOP_FAULT_BUFFER, and
-   `out` is unchanged: a first call with a size of 0 asks for the size, and does all the work. With any other fault *size and
+   or *count is how much that is. Texts have no zero at their end. If more is found than fits, the result is HYSSOP_FAULT_BUFFER,
+   and `out` is unchanged: a first call with a size of 0 asks for the size, and does all the work. With any other fault *size and
    *count are 0, and `out` is unchanged. *place is where a fault is, and 0 if there is none. */
 #ifndef HYSSOP_H
 #define HYSSOP_H

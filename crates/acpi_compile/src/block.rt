@@ -288,8 +288,8 @@ fn check(
     Err(unlike(alloc, noted_as(&shown, kept), kept, node)?)
 }
 
-/// Makes a text into the definition block that it is the ASL of. The error `Fault` is the first place where the text isn't the ASL
-/// of a block, and what is wrong there. The error `Memory` is that memory ran out.
+/// Makes a text into the definition block that it is the ASL of. The error `Fault` is the first place where the text isn't the
+/// ASL of a block, and what is wrong there. The error `Memory` is that memory ran out.
 pub fn compile(alloc: Global, text: &[u8]) -> Result<Vec<u8>, AslError>
     ensures { IfOk result (λ block. IsCompiled text.now block.items) }
 {

@@ -244,8 +244,8 @@ const IORT: TableForm = TableForm {
     inner: &Inner::Nothing,
 };
 
-/// Returns the form of the IO Remapping Table (Arm DEN0049E.d). The first nodes of type 2, 4 and 5, of revision 0, are shorter: the
-/// bytes after their fields have the names of later revisions.
+/// Returns the form of the IO Remapping Table (Arm DEN0049E.d). The first nodes of type 2, 4 and 5, of revision 0, are shorter:
+/// the bytes after their fields have the names of later revisions.
 pub fn iort_form() -> TableForm
     ensures { IsNamed result iort_names }
 {

@@ -32,7 +32,8 @@ pub enum Layout {
     SpecifiedRimt,
     /// That of a PMTT of revision 1.
     EarlierPmtt,
-    /// That of a GTDT of revision 2, whose timers may begin at 96. One of revision 1 (ACPI 5.0) has this form, too: it ends at 80.
+    /// That of a GTDT of revision 2, whose timers may begin at 96. One of revision 1 (ACPI 5.0) has this form, too: it ends at
+    /// 80.
     EarlierGtdt,
 }
 
@@ -177,8 +178,8 @@ pub fn form_in(signature: u32, bytes: &[u8]) -> TableForm
     form_as(layout_in(signature, bytes), signature)
 }
 
-/// Returns the walk of a table of a signature, by its bytes. The timers of a GTDT begin at 96 or later if its revision (the byte at
-/// 8) is 1 or 2, and at 104 or later otherwise. All other tables have the walk of their signature.
+/// Returns the walk of a table of a signature, by its bytes. The timers of a GTDT begin at 96 or later if its revision (the byte
+/// at 8) is 1 or 2, and at 104 or later otherwise. All other tables have the walk of their signature.
 #[tactic(auto, unfolding(crate::specs::Layout::walk_in))]
 pub fn walk_in(signature: u32, bytes: &[u8]) -> Option<Walk>
     ensures { result ≡ walk_in signature bytes.now }

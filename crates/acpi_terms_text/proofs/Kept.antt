@@ -9,7 +9,8 @@ use Rattle.acpi_term.specs.Tree.{Head, number, ones, string, local, arg, call, d
 use Rattle.acpi_read.specs.Lines.{hex_bytes, lines}
 use Rattle.acpi_terms_text.specs.Eisa.{upper_digit, upper_byte, is_id, id_text, eisa_text}
 use Rattle.acpi_terms_text.specs.Uuid.{uuid_text}
-use Rattle.acpi_terms_text.specs.Descriptor.{name_in, names, item_size, item_type, is_space, space_names, or_space, space_name, item_name, is_template, template_text}
+use Rattle.acpi_terms_text.specs.Descriptor.{names, item_size, item_type, is_space, space_names, or_space, space_name, item_name, is_template, template_text}
+use Rattle.acpi_terms_text.specs.Word.{word_in}
 use Rattle.acpi_terms_text.specs.Comment.{has_ids, buffer_text, has_size, number_note, note, comment}
 use Rattle.acpi_terms_text.specs.Woven.{entry_notes, notes, woven}
 use Rattle.acpi_terms_text.specs.Laws.{IsOneLine, HasLines, same, plain, noted, LinesAreKept}
@@ -65,11 +66,11 @@ abbrev are_lines : List (ℕ × List ℕ) → Bool
 are_lines [] = true
 are_lines (row ∷ rows) = is_line row.1 && are_lines rows
 
-name_line : (rows : List (ℕ × List ℕ)) (n : ℕ) → are_lines rows ≡ true → IsOneLine (name_in rows n)
+name_line : (rows : List (ℕ × List ℕ)) (n : ℕ) → are_lines rows ≡ true → IsOneLine (word_in rows n)
 name_line [] n are = tt
 name_line (row ∷ rows) n are =
     let parts = and_parts (is_line row.1) (are_lines rows) are in
-    elim (row.0 == n) as (λ v. IsOneLine (if v then row.1 else name_in rows n)) [
+    elim (row.0 == n) as (λ v. IsOneLine (if v then row.1 else word_in rows n)) [
       | true ↦ tested row.1 parts.0
       | false ↦ name_line rows n parts.1
     ]
@@ -83,11 +84,11 @@ space_line [] = tested (codes "Space") refl
 space_line (a ∷ []) = tested (codes "Space") refl
 space_line (a ∷ b ∷ []) = tested (codes "Space") refl
 space_line (a ∷ b ∷ c ∷ []) = tested (codes "Space") refl
-space_line (a ∷ b ∷ c ∷ n ∷ more) = or_line (name_in space_names n) (name_line space_names n refl)
+space_line (a ∷ b ∷ c ∷ n ∷ more) = or_line (word_in space_names n) (name_line space_names n refl)
 
 item_line : (tag : ℕ) (more : List ℕ) → IsOneLine (item_name tag more)
 item_line tag more =
-    one_and (name_in names (item_type tag)) _ (name_line names (item_type tag) refl)
+    one_and (word_in names (item_type tag)) _ (name_line names (item_type tag) refl)
     (either_line (is_space (item_type tag)) _ (space_line (take (item_size (tag ∷ more)) (tag ∷ more))))
 
 template_line : (left : ℕ) (bytes : List ℕ) → IsOneLine (template_text left bytes)

@@ -98,7 +98,7 @@ module _ (all : List Callee) where
       let same : n ≡ suc n - 1 = omega arith in
       ap (λ (k : ℕ). all_below up scope all ++ relative_names k (0x5e ∷ up) (parent scope) all) same
 
-  -- a scope further out, around which so many are left
+  -- the scope around this one, around which k are left
   pub relative_on : (n k : ℕ) (up more scope outer : List ℕ) (now new whole : Counts) → 0 < n → k ≡ n - 1 → more ≡ 0x5e ∷ up → outer ≡ parent scope
       → new ≡ with_all now (all_below up scope all) → with_all now (relative_names n up scope all) ≡ whole
       → with_all new (relative_names k more outer all) ≡ whole

@@ -109,7 +109,7 @@ module _ (all : List Callee) where
 -- ---- terms in scopes
 
 module _ (stated : Counts) (all differing : List Callee) (own : Counts) (scope : List ℕ) where
-  -- so many terms are in a scope, and those after them are as they were
+  -- some terms are in a scope, and those after them are as they were
   abbrev pub AreDone : ℕ → List Term → List Term → Type 0
   AreDone zero old now = now ≡ old
   AreDone (suc i) [] [] = Unit {0}

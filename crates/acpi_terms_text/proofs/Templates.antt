@@ -2,7 +2,8 @@
 use Rattle.std.proofs.Common.{◌≡◌, ℕ, zero, suc, ◌-◌, ◌==◌, true, false, List, [], ◌∷◌, ◌++◌, length, drop, refl, ap, sym, ◌∙◌, append_assoc, arith}
 use Rattle.std.specs.Prelude.{codes, nat_lt}
 use Rattle.std.proofs.lemmas.Bool.{ne_eqb}
-use Rattle.acpi_terms_text.specs.Descriptor.{item_size, item_type, name_in, names, item_name, is_template, template_text}
+use Rattle.acpi_terms_text.specs.Descriptor.{item_size, item_type, names, item_name, is_template, template_text}
+use Rattle.acpi_terms_text.specs.Word.{word_in}
 
 skip_test : (k : ℕ) (bytes : List ℕ) → is_template k bytes ≡ is_template 0 (drop k bytes)
 skip_test zero bytes = refl
@@ -23,7 +24,7 @@ some_size tag more =
     ] refl
 
 pub test_goes_on : (bytes rest after more : List ℕ) (tag : ℕ) → rest ≡ tag ∷ more → (tag ≡ 0x79 → ⊥)
-    → (length (name_in names (item_type tag)) == 0) ≡ false → after ≡ drop (item_size (tag ∷ more)) rest
+    → (length (word_in names (item_type tag)) == 0) ≡ false → after ≡ drop (item_size (tag ∷ more)) rest
     → is_template 0 bytes ≡ is_template 0 rest → is_template 0 bytes ≡ is_template 0 after
 test_goes_on bytes rest after more tag is other named next before =
     before ∙ ap (is_template 0) is
@@ -35,7 +36,7 @@ pub test_ends : (bytes rest more : List ℕ) (tag : ℕ) → rest ≡ tag ∷ mo
 test_ends bytes rest more tag is end before = sym (before ∙ ap (is_template 0) is ∙ rw end refl)
 
 pub test_fails : (bytes rest more : List ℕ) (tag : ℕ) → rest ≡ tag ∷ more → (tag ≡ 0x79 → ⊥)
-    → (length (name_in names (item_type tag)) == 0) ≡ true → is_template 0 bytes ≡ is_template 0 rest → false ≡ is_template 0 bytes
+    → (length (word_in names (item_type tag)) == 0) ≡ true → is_template 0 bytes ≡ is_template 0 rest → false ≡ is_template 0 bytes
 test_fails bytes rest more tag is other named before = sym (before ∙ ap (is_template 0) is ∙ rw (ne_eqb tag 0x79 other, named) refl)
 
 pub text_goes_on : (whole old rest after more new : List ℕ) (tag : ℕ) → rest ≡ tag ∷ more → (tag ≡ 0x79 → ⊥)

@@ -1,6 +1,7 @@
 -- The names of resource descriptors (ACPI 6.5, 6.4.2 and 6.4.3).
 use Rattle.std.specs.Prelude.{ℕ, zero, suc, ◌+◌, ◌-◌, ◌*◌, ◌%◌, nat_lt, nat_le, ◌==◌, ◌&&◌, not, Bool, false}
 use Rattle.std.specs.Prelude.{if◌then◌else◌, List, [], ◌∷◌, ◌++◌, length, take, codes}
+use Rattle.acpi_terms_text.specs.Word.{word_in}
 
 -- ---- items
 
@@ -20,11 +21,6 @@ abbrev pub item_type : ℕ → ℕ
 item_type tag = if nat_lt tag 128 then tag - tag % 8 else tag
 
 -- ---- names
-
--- the name in the first row with a number, or nothing
-abbrev pub name_in : List (ℕ × List ℕ) → ℕ → List ℕ
-name_in [] n = []
-name_in (row ∷ rows) n = if row.0 == n then row.1 else name_in rows n
 
 -- The names of descriptors. Those of address spaces are followed by the name of their resource type.
 abbrev pub names : List (ℕ × List ℕ)
@@ -72,7 +68,7 @@ or_space (c ∷ name) = c ∷ name
 
 -- the name of an address space's resource type, which is the byte at 3
 abbrev pub space_name : List ℕ → List ℕ
-space_name (tag ∷ low ∷ high ∷ n ∷ more) = or_space (name_in space_names n)
+space_name (tag ∷ low ∷ high ∷ n ∷ more) = or_space (word_in space_names n)
 space_name _ = codes "Space"
 
 -- the rest of the name of an item of this many bytes at the front
@@ -81,7 +77,7 @@ name_end tag size bytes = if is_space (item_type tag) then space_name (take size
 
 -- the name of the item at the front, if its type has one
 abbrev pub item_name : ℕ → List ℕ → List ℕ
-item_name tag more = name_in names (item_type tag) ++ name_end tag (item_size (tag ∷ more)) (tag ∷ more)
+item_name tag more = word_in names (item_type tag) ++ name_end tag (item_size (tag ∷ more)) (tag ∷ more)
 
 -- ---- templates
 
@@ -92,7 +88,7 @@ is_template left [] = false
 is_template (suc left) (b ∷ bytes) = is_template left bytes
 is_template zero (b ∷ bytes) =
     if b == 0x79 then length bytes == 1
-    else (not (length (name_in names (item_type b)) == 0) && is_template (item_size (b ∷ bytes) - 1) bytes)
+    else (not (length (word_in names (item_type b)) == 0) && is_template (item_size (b ∷ bytes) - 1) bytes)
 
 -- the names of the items of a template
 abbrev pub template_text : ℕ → List ℕ → List ℕ

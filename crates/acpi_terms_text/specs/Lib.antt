@@ -1,3 +1,4 @@
+pub mod Word
 pub mod Path
 pub mod Objects
 pub mod Scoped

@@ -189,7 +189,7 @@ aliases scope terms = made own_aliases scope terms
 abbrev pub levels : List ℕ → List ℕ → ℕ
 levels scope name = if length name == 4 then length scope / 4 else 0
 
--- the number of arguments of the first object that has a name in a scope, or else in one of so many scopes around it
+-- the number of arguments of the first object that has a name in a scope, or else in one of the n scopes around it
 abbrev pub args_near : ℕ → List ℕ → List ℕ → List Callee → Option ℕ
 args_near zero scope name all = args_at (path_in scope name) all
 args_near (suc n) scope name all = option_or (args_at (path_in scope name) all) (args_near n (parent scope) name all)
@@ -248,7 +248,7 @@ abbrev pub has_segment : List ℕ → List ℕ → Bool
 has_segment (a ∷ b ∷ c ∷ d ∷ bytes) segment = bytes_eq (a ∷ b ∷ c ∷ d ∷ []) segment || has_segment (b ∷ c ∷ d ∷ bytes) segment
 has_segment _ segment = false
 
--- whether an object of this name with so many arguments is kept
+-- whether an object of this name with this number of arguments is kept
 abbrev pub keeps : Kept → List ℕ → ℕ → Bool
 keeps All name args = true
 keeps (Among among) name args = not (arity among.now (last_segment name) == 0)

@@ -31,7 +31,7 @@ abbrev pub made_in : List ℕ → List Callee → List (List ℕ × ℕ)
 made_in scope [] = []
 made_in scope (m ∷ all) = here scope m ++ made_in scope all
 
--- those of a scope, and then those of so many scopes around it
+-- those of a scope, and then those of the n scopes around it
 abbrev pub near : ℕ → List ℕ → List Callee → List (List ℕ × ℕ)
 near zero scope all = made_in scope all
 near (suc n) scope all = made_in scope all ++ near n (parent scope) all
@@ -57,7 +57,7 @@ abbrev pub all_below : List ℕ → List ℕ → List Callee → List (List ℕ 
 all_below up scope [] = []
 all_below up scope (m ∷ all) = below up scope m ++ all_below up scope all
 
--- those of a scope, and then those of so many scopes around it, with a `^` more for each
+-- those of a scope, and then those of the n scopes around it, with a `^` more for each
 abbrev pub relative : ℕ → List ℕ → List ℕ → List Callee → List (List ℕ × ℕ)
 relative zero up scope all = all_below up scope all
 relative (suc n) up scope all = all_below up scope all ++ relative n (0x5e ∷ up) (parent scope) all

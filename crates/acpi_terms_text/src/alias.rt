@@ -143,7 +143,8 @@ fn levels(scope: &[u8], name: &[u8]) -> usize
     if name.len() == 4 { scope.len() / 4 } else { 0 }
 }
 
-// Returns the number of arguments of the first object that has a name in a scope, or else in one of so many scopes around it.
+// Returns the number of arguments of the first object that has a name in a scope, or else in one of the `levels` scopes around
+// it.
 #[cycle(near)]
 fn args_near(levels: usize, scope: &[u8], name: &[u8], objects: &[Object]) -> Option<u8>
     ensures { result ≡ args_near levels scope.now name.now (map callee_by objects.now) }

@@ -1,9 +1,11 @@
 //! The names of resource descriptors (ACPI 6.5, 6.4.2 and 6.4.3). A function whose name begins with `push` adds to a text.
 
-ghost use Rattle.std.specs.Prelude.{◌≡◌, ◌<◌, ◌^◌, ◌++◌, ◌∷◌, map, OnOk, string_bytes};
-ghost use Rattle.acpi_terms_text.specs.Descriptor.{large_length, item_size, item_type, name_in, names, is_space, space_names};
+ghost use Rattle.std.specs.Prelude.{◌≡◌, ◌<◌, ◌^◌, ◌++◌, ◌∷◌, OnOk, string_bytes};
+ghost use Rattle.acpi_terms_text.specs.Descriptor.{large_length, item_size, item_type, names, is_space, space_names};
 ghost use Rattle.acpi_terms_text.specs.Descriptor.{or_space, space_name, name_end, is_template, template_text};
+ghost use Rattle.acpi_terms_text.specs.Word.{word_in};
 
+use crate::word::word_in;
 use acpi_base::slice::from_offset;
 use std::alloc::AllocError;
 
@@ -40,18 +42,6 @@ const NAMES: [(u8, &str); 26] = [
 /// The resource types of address spaces.
 const SPACES: [(u8, &str); 3] = [(0, "Memory"), (1, "IO"), (2, "BusNumber")];
 
-// Returns the name in the first row with a number, or an empty one.
-fn name_in(rows: &[(u8, &'static str)], number: u8) -> &'static str
-    ensures { result.now ≡ name_in (map (λ row. (row.0, row.1.now)) rows.now) number }
-{
-    'rows: for row in rows {
-        if row.0 == number {
-            return row.1;
-        }
-    }
-    ""
-}
-
 // Returns the number after the tag of a large item.
 fn large_length(bytes: &[u8]) -> usize
     ensures is { result ≡ large_length bytes.now }
@@ -83,9 +73,9 @@ fn item_type(tag: u8) -> u8
 
 // Returns the name of a descriptor, or the first part of an address space's.
 fn type_name(kind: u8) -> &'static str
-    ensures { result.now ≡ name_in names kind }
+    ensures { result.now ≡ word_in names kind }
 {
-    name_in(&NAMES, kind)
+    word_in(&NAMES, kind)
 }
 
 fn is_space(kind: u8) -> bool
@@ -96,9 +86,9 @@ fn is_space(kind: u8) -> bool
 
 // Returns the name of a resource type.
 fn kind_name(kind: u8) -> &'static str
-    ensures { result.now ≡ or_space (name_in space_names kind) }
+    ensures { result.now ≡ or_space (word_in space_names kind) }
 {
-    let name = name_in(&SPACES, kind);
+    let name = word_in(&SPACES, kind);
     if name.is_empty() { "Space" } else { name }
 }
 

@@ -16,8 +16,8 @@ pub fn is_id_name(name: &NameString) -> bool
     segment == b"_HID".as_slice() || segment == b"_CID".as_slice()
 }
 
-/// Returns whether the numbers among a term's children can be EISA ids. Those of a package can, if the package itself stands where
-/// one can be.
+/// Returns whether the numbers among a term's children can be EISA ids. Those of a package can, if the package itself stands
+/// where one can be.
 pub fn has_ids(ids: bool, kind: Kind<'_>) -> bool
     ensures { result ≡ has_ids ids (head_of kind.entry) }
 {

@@ -13,3 +13,4 @@ pub mod objects;
 pub mod path;
 pub mod scoped;
 pub mod uuid;
+pub mod word;

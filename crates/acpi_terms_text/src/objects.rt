@@ -12,7 +12,8 @@ ghost use Rattle.acpi_terms_text.specs.Objects.{own_unit, own_units, own_externa
 ghost use Rattle.acpi_terms_text.specs.Objects.{made_by, name_of, name_at, own_operand, own_objects, objects};
 ghost use Rattle.acpi_terms_text.specs.Objects.{segment_of, segments, segments_in, own_segments, all_among, all_callees};
 ghost use Rattle.acpi_terms_text.specs.Objects.{has_segment, keeps, all_kept};
-ghost use Rattle.acpi_terms_text.specs.Objects.{args_at, aliases, callees, numbers, numbers_of, called, predefined, own_numbers, first_numbers};
+ghost use Rattle.acpi_terms_text.specs.Objects.{args_at, aliases, callees, numbers, numbers_of, called, predefined};
+ghost use Rattle.acpi_terms_text.specs.Objects.{own_numbers, first_numbers};
 ghost use Rattle.acpi_terms_text.specs.Objects.{AreOwn, AddObjectsIn};
 ghost use Rattle.acpi_terms_text.specs.Path.{path_in};
 
@@ -144,7 +145,7 @@ fn has_segment(bytes: &[u8], segment: &[u8]) -> bool
     false
 }
 
-// Returns whether an object of this name with so many arguments is kept.
+// Returns whether an object of this name with this number of arguments is kept.
 fn keeps(kept: Kept<'_>, name: &[u8], args: u8) -> bool
     ensures { result ≡ keeps kept.entry name.now args }
 {

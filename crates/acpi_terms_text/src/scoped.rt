@@ -94,7 +94,7 @@ fn add_made_in(
     Ok(())
 }
 
-// Adds those of a scope, and of so many scopes around it.
+// Adds those of a scope, and of the `levels` scopes around it.
 #[cycle(near)]
 fn add_near(
     alloc: Global,
@@ -247,8 +247,8 @@ pub(crate) enum Sought<'a> {
     Unread,
 }
 
-// Returns whether a term stands for bytes that aren't read.
-fn is_unread(kind: Kind<'_>) -> bool
+/// Returns whether a term stands for bytes that aren't read.
+pub fn is_unread(kind: Kind<'_>) -> bool
     ensures { result ≡ is_unread (head_of kind.entry) }
 {
     match kind {
@@ -328,7 +328,7 @@ fn names_in(scope: &[u8], body: &[Term], objects: &[Object]) -> bool
     false
 }
 
-// Returns whether a body has the last segment of an object in this scope, or in so many scopes around it, as a name.
+// Returns whether a body has the last segment of an object in this scope, or in one of the `levels` scopes around it, as a name.
 #[cycle(names)]
 fn names_near(levels: usize, scope: &[u8], body: &[Term], objects: &[Object]) -> bool
     ensures { result ≡ have_name (views body.now) (near levels scope.now (map callee_by objects.now)) }

@@ -61,8 +61,8 @@ pub enum Command<'a> {
     Repair(&'a str, &'a str),
     /// `diff FILE FILE`: the fields in which the tables in two files differ, or on standard input where a word is `-`.
     Diff(&'a str, &'a str),
-    /// `tree [--dot] FILE`: the structures of the table in a file, or on standard input where the word is `-`, or the tables of an
-    /// image FILE@BASE, as a tree. With `--dot` they are a graph.
+    /// `tree [--dot] FILE`: the structures of the table in a file, or on standard input where the word is `-`, or the tables of
+    /// an image FILE@BASE, as a tree. With `--dot` they are a graph.
     Tree(bool, &'a str),
 }
 

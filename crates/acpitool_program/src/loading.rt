@@ -202,8 +202,8 @@ fn write_loader<R: Files, O: Write, E: Write>(
 ///
 /// If the files have no loader, nothing is written, and lines on `err` say why: a file can't be read or isn't what its signature
 /// says, a text isn't made into a table, numbers of its table are wrong, or `loader_of` refuses them. If a folder or a file can't
-/// be made, also since a file is there, no further file is written, and a line on `err` names it. The status is 1 then, and 2 if a
-/// file or the folder can't be read.
+/// be made, also since a file is there, no further file is written, and a line on `err` names it. The status is 1 then, and 2 if
+/// a file or the folder can't be read.
 pub fn load_folder<R: Files + AllocGlobal + Clone + Drop, O: Write, E: Write>(
     rt: &R,
     alloc: Global,

@@ -24,9 +24,8 @@ pub fn structures(bytes: &[u8]) -> Result<Vec<Structure>, Error> {
     })
 }
 
-/// Checks terms of AML, without a table's header (ACPI 6.5, 20.2). `arities` has words `NAME=N` with a space between two: how many
-/// arguments a call of this method has. The place of an error is an offset.
-/// It needs 512 KiB of stack.
+/// Checks terms of AML, without a table's header (ACPI 6.5, 20.2). `arities` has words `NAME=N` with a space between two: how
+/// many arguments a call of this method has. The place of an error is an offset. It needs 512 KiB of stack.
 pub fn check_aml(bytes: &[u8], arities: &str) -> Result<(), Error> {
     let mut place = 0;
     let number = unsafe {
@@ -41,9 +40,8 @@ pub fn check_aml(bytes: &[u8], arities: &str) -> Result<(), Error> {
     Error::of(number, place)
 }
 
-/// Returns the ASL of a definition block (ACPI 6.5, 19). `arities` is that of `check_aml`; a name that isn't there has the number of
-/// arguments that the block itself states. The place of an error is an offset.
-/// It needs 2 MiB of stack.
+/// Returns the ASL of a definition block (ACPI 6.5, 19). `arities` is that of `check_aml`; a name that isn't there has the number
+/// of arguments that the block itself states. The place of an error is an offset. It needs 2 MiB of stack.
 pub fn disassemble(bytes: &[u8], arities: &str) -> Result<String, Error> {
     let text = filled(|out, room, size, place| unsafe {
         sys::hyssop_disassemble(
@@ -79,9 +77,8 @@ pub fn names(bytes: &[u8], arities: &str) -> Result<String, Error> {
     Ok(crate::text::text_of(text))
 }
 
-/// Returns the definition block of a text that `disassemble` returned, or one like it (ACPI 6.5, 19). Lengths and the checksum are
-/// worked out. The place of an error is a line.
-/// It needs 2 MiB of stack.
+/// Returns the definition block of a text that `disassemble` returned, or one like it (ACPI 6.5, 19). Lengths and the checksum
+/// are worked out. The place of an error is a line. It needs 2 MiB of stack.
 pub fn compile(text: &str) -> Result<Vec<u8>, Error> {
     filled(|out, room, size, place| unsafe {
         sys::hyssop_compile(text.as_ptr(), text.len(), out, room, size, place)
@@ -97,10 +94,10 @@ pub struct AmongText {
     pub unread: Option<usize>,
 }
 
-/// Returns the ASL of a definition block as `disassemble`, but among further blocks, which have the same namespace (ACPI 6.5, 5.3):
-/// calls have the numbers of arguments that they state, too. A block of which not all terms can be read has a text, too. The place of
-/// an error is an offset. With `FURTHER_BLOCK` it is one in the further blocks, counted through all of them.
-/// It needs 2 MiB of stack.
+/// Returns the ASL of a definition block as `disassemble`, but among further blocks, which have the same namespace (ACPI 6.5,
+/// 5.3): calls have the numbers of arguments that they state, too. A block of which not all terms can be read has a text, too.
+/// The place of an error is an offset. With `FURTHER_BLOCK` it is one in the further blocks, counted through all of them. It
+/// needs 2 MiB of stack.
 pub fn disassemble_among(
     bytes: &[u8],
     further: &[&[u8]],
@@ -109,8 +106,8 @@ pub fn disassemble_among(
     among(sys::hyssop_disassemble_among, bytes, further, arities)
 }
 
-/// Returns the objects that a definition block makes when it is loaded, as a tree of names. All else is as for `disassemble_among`.
-/// It needs 2 MiB of stack.
+/// Returns the objects that a definition block makes when it is loaded, as a tree of names. All else is as for
+/// `disassemble_among`. It needs 2 MiB of stack.
 pub fn names_among(bytes: &[u8], further: &[&[u8]], arities: &str) -> Result<AmongText, Error> {
     among(sys::hyssop_names_among, bytes, further, arities)
 }

@@ -57,8 +57,8 @@ pub enum Update {
     WriteAsZeroes = 2,
 }
 
-/// The operators (ACPI 6.5, 20.2.5), by their names in ASL, but for `DataRegion`, which is DataTableRegion there. The number is the
-/// opcode (20.3). A MatchOpcode of `Match` is a byte, which `bytes` writes.
+/// The operators (ACPI 6.5, 20.2.5), by their names in ASL, but for `DataRegion`, which is DataTableRegion there. The number is
+/// the opcode (20.3). A MatchOpcode of `Match` is a byte, which `bytes` writes.
 #[repr(u32)]
 #[derive(Clone, Copy, Debug, PartialEq, Eq)]
 pub enum Op {
@@ -675,8 +675,8 @@ impl Writer {
         self.call(|inner| unsafe { sys::hyssop_add_fields(inner) })
     }
 
-    /// Adds a structure of a type to the table, after the fields of the table, and returns its offset, or 0 with an error. All its
-    /// fields up to its first list are zero, but its type and its length. The table gets the number of its structures and the
+    /// Adds a structure of a type to the table, after the fields of the table, and returns its offset, or 0 with an error. All
+    /// its fields up to its first list are zero, but its type and its length. The table gets the number of its structures and the
     /// offset of the first, if it has fields for them. A table whose structures have no types takes the type 0.
     pub fn add_structure(&mut self, kind: u32) -> usize {
         let offset = Cell::new(0);
@@ -684,8 +684,8 @@ impl Writer {
         offset.get()
     }
 
-    /// Adds a structure as its bytes to the table, after the fields of the table, and returns its offset, or 0 with an error. They
-    /// are as many as their length field or their type says. All else is as for `add_structure`.
+    /// Adds a structure as its bytes to the table, after the fields of the table, and returns its offset, or 0 with an error.
+    /// They are as many as their length field or their type says. All else is as for `add_structure`.
     pub fn add_structure_bytes(&mut self, bytes: &[u8]) -> usize {
         let offset = Cell::new(0);
         self.call(|inner| unsafe {

@@ -1,5 +1,5 @@
-//! Tables and objects by the names of `acpi_tables`. The expected bytes were worked out by hand from ACPI 6.5 and from the documents
-//! that the modules name.
+//! Tables and objects by the names of `acpi_tables`. The expected bytes were worked out by hand from ACPI 6.5 and from the
+//! documents that the modules name.
 
 use hyssop_acpi::aml::*;
 use hyssop_acpi::gas::{AccessSize, AddressSpace as Space, GAS};

@@ -1,8 +1,8 @@
 //! Builds the tables of a guest, as a monitor does, and lays them into an image. The machines are those of `acpi_example`, whose
 //! tables have the same bytes.
 //!
-//! `monitor FOLDER BASE` and `monitor arm FOLDER BASE` write each table to a file of the folder, and the image to `image`. BASE is
-//! the physical address of the image's first byte in hexadecimal, a multiple of 64.
+//! `monitor FOLDER BASE` and `monitor arm FOLDER BASE` write each table to a file of the folder, and the image to `image`. BASE
+//! is the physical address of the image's first byte in hexadecimal, a multiple of 64.
 
 mod arm;
 mod q35;
