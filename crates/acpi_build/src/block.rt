@@ -300,7 +300,7 @@ impl Block {
         }
     }
 
-    /// Begins a package with room for so many elements (ACPI 6.5, 20.2.5.4, DefPackage: NumElements). Each object that is added
+    /// Begins a package with room for `room` elements (ACPI 6.5, 20.2.5.4, DefPackage: NumElements). Each object that is added
     /// is an element. There are at most as many as there is room for.
     pub fn package_with_room(&mut self, room: u8)
         ensures { Does out_of_memory (λ w. Ok (with_roomy_package room w)) self.old self.new }

@@ -1,5 +1,5 @@
 //! Calls that go by the form of the table that is written. It is that of the table's signature: of the bytes of a table that is
-//! being written, not all fields are there that would tell another layout.
+//! being written, not all fields are there that would show another layout.
 
 ghost use Rattle.std.specs.Prelude.{◌≡◌, ◌==◌, if◌then◌else◌};
 ghost use Rattle.acpi_c_calls.specs.Add.{adds_structure, adds_piece, adds_fields, ends_structure};

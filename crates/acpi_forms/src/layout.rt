@@ -162,7 +162,7 @@ pub(crate) fn walk_as(layout: Layout, signature: u32) -> Option<Walk>
 }
 
 /// A law: what library calls write is never taken for a table of the specification. This holds of each node that can be the first
-/// one, for all values of its fields, and whatever follows it.
+/// one, for all values of its fields, and whatever bytes follow it.
 pub fn written_nodes_are_usual()
     ensures { WrittenAreUsual }
 {}

@@ -17,7 +17,8 @@ use Rattle.acpi_make.specs.Gives.{with_front, and_then}
 use Rattle.acpi_make.specs.Item.{known_cells}
 use Rattle.acpi_make.specs.Laws.{TablesAreTrue}
 use Rattle.acpi_make.specs.Made.{Table, sizes_own, made_of, numbers_own, unless, finished, or_doubt}
-use Rattle.acpi_make.specs.Notes.{begins_with, is_untrue, untrue, untrue_sum, notes}
+use Rattle.acpi_make.specs.Notes.{begins_with, is_untrue, untrue, listed, untrue_sum, untrue_sums, notes}
+use Rattle.acpi_make.specs.Right.{with_numbers}
 use Rattle.acpi_make.specs.Extent.{own}
 use Rattle.acpi_make.specs.Own.{none_own, table_own, references_own}
 use Rattle.acpi_make.specs.Short.{short}
@@ -182,12 +183,13 @@ holds offset w n bytes within is =
 
 -- ---- whole tables
 
-no_sum : (a b : Bool) (one : Own) → a ≡ true → cond (a && not b) (one ∷ []) [] ≡ [] → b ≡ true
+no_sum : (a b : Bool) (one : Own) → a ≡ true → listed (cond (a && not b && not b) (Some one) None) ≡ [] → b ≡ true
 no_sum true true one is none = refl
 no_sum true false one is none = absurd cc
 no_sum false b one is none = absurd cc
 
-sum_right : (offset : ℕ) (bytes : List ℕ) → offset < length bytes → untrue_sum offset (length bytes) bytes ≡ [] → sum bytes % 256 ≡ 0
+sum_right : (offset : ℕ) (bytes : List ℕ) → offset < length bytes → listed (untrue_sum offset (length bytes) bytes bytes) ≡ []
+    → sum bytes % 256 ≡ 0
 sum_right offset bytes within none =
     let front = take (length bytes) bytes in
     ap (λ l. sum l % 256) (sym (take-length bytes))
@@ -196,16 +198,19 @@ sum_right offset bytes within none =
 -- what a table without notes is
 pub record IsQuiet (walk : Option Walk) (d : Drafted) (bytes : List ℕ) : Type 0 where
   pub hold : AllHold bytes (sizes_own kinds.Table walk d)
-  pub sums : untrue_sum 9 (length bytes) bytes ≡ []
+  pub sums : listed (untrue_sum 9 (length bytes) bytes bytes) ≡ []
 
 pub quiet_is : (walk : Option Walk) (s : Source) (d : Drafted) (table : Table) → IsFinished kinds.Table walk s d table → table.untrue ≡ []
     → IsQuiet walk d table.bytes
 quiet_is walk s d table is none =
     let sizes = sizes_own kinds.Table walk d in
     let owns = is.references ++ (sizes ++ table_own s d.cells d.marks) in
-    let both = none_in (untrue owns table.bytes) (untrue_sum 9 (length table.bytes) table.bytes) (sym is.noted ∙ none) in
+    let wrong = untrue owns table.bytes in
+    let sums = untrue_sums kinds.Table table.bytes in
+    let both = none_in wrong (sums (with_numbers wrong table.bytes)) (sym is.noted ∙ none) in
     let rest = hold_both table.bytes is.references (sizes ++ table_own s d.cells d.marks) (all_hold owns table.bytes both.0) in
-    record { hold = (hold_both table.bytes sizes (table_own s d.cells d.marks) rest.1).0; sums = both.1 }
+    let as_they_are = ap (λ (l : List Own). sums (with_numbers l table.bytes)) (sym both.0) in
+    record { hold = (hold_both table.bytes sizes (table_own s d.cells d.marks) rest.1).0; sums = as_they_are ∙ both.1 }
 
 pub tables_true : TablesAreTrue
 tables_true walk s parts table is none long =

@@ -1,13 +1,13 @@
 -- Which number of a text is the cause, where its lines aren't those of the text that shows the table.
-use Rattle.std.specs.Prelude.{ℕ, ◌-◌, ◌==◌, nat_le, ◌&&◌, not, Bool, true, false, if◌then◌else◌, List, [], ◌∷◌, length, take}
+use Rattle.std.specs.Prelude.{ℕ, ◌==◌, ◌&&◌, not, Bool, true, false, if◌then◌else◌, List, [], ◌∷◌}
 use Rattle.std.specs.Prelude.{Option, Some, None, Result, Ok, Err}
-use Rattle.acpi_base.specs.Bytes.{le, put}
 use Rattle.acpi_base.specs.declared.walk.Walk.{Walk}
 use Rattle.acpi_make.specs.Compare.{difference}
 use Rattle.acpi_make.specs.Complete.{length_own}
 use Rattle.acpi_make.specs.Draft.{Drafted, or_fault}
 use Rattle.acpi_make.specs.Fault.{Fault}
 use Rattle.acpi_make.specs.Notes.{is_untrue}
+use Rattle.acpi_make.specs.Right.{with_numbers}
 use Rattle.acpi_make.specs.Another.{another_at}
 use Rattle.acpi_make.specs.Source.{Source}
 use Rattle.acpi_make.specs.declared.draft.Mark.{Mark}
@@ -25,28 +25,13 @@ abbrev pub another_own : Source → List Mark → Option Own → Option Fault
 another_own s marks (Some one) = another_at s marks one.offset one.number
 another_own s marks None = None
 
--- ---- the right numbers
-
--- whether the field of a number is within this many bytes
-abbrev pub has_field : Own → ℕ → Bool
-has_field one size = nat_le one.width 8 && nat_le one.offset size && nat_le one.width (size - one.offset)
-
--- the bytes with a number in its field, if the field is there
-abbrev pub with_number : Own → List ℕ → List ℕ
-with_number one bytes =
-    if has_field one (length bytes) then put one.offset (take one.width (le 8 one.number)) bytes else bytes
-
-abbrev pub with_numbers : List Own → List ℕ → List ℕ
-with_numbers [] bytes = bytes
-with_numbers (one ∷ owns) bytes = with_numbers owns (with_number one bytes)
+-- ---- the cause
 
 -- whether a text has the lines of the text that shows a table
 abbrev pub has_lines : Result (Option Fault) Fault → Bool
 has_lines (Ok None) = true
 has_lines (Ok (Some wrong)) = false
 has_lines (Err wrong) = false
-
--- ---- the cause
 
 -- a number that isn't right, if the text has the lines of the table with the right numbers, or else a line
 abbrev pub cause : Bool → Option Fault → Fault → Fault

@@ -16,6 +16,7 @@ pub mod Complete
 pub mod Compare
 pub mod Range
 pub mod Short
+pub mod Right
 pub mod Notes
 pub mod Blamed
 pub mod Made

@@ -1,9 +1,10 @@
 -- The numbers of a table that aren't right.
 use Rattle.std.specs.Prelude.{ℕ, zero, suc, ◌+◌, ◌/◌, ◌%◌, ◌==◌, nat_lt, nat_le, ◌&&◌, not, Bool, false, if◌then◌else◌}
-use Rattle.std.specs.Prelude.{sum, slice_index}
+use Rattle.std.specs.Prelude.{sum, slice_index, Option, Some, None}
 use Rattle.std.specs.Prelude.{List, [], ◌∷◌, ◌++◌, length, take, drop}
 use Rattle.acpi_base.specs.Bytes.{complement}
 use Rattle.acpi_make.specs.Extent.{own}
+use Rattle.acpi_make.specs.Right.{with_numbers}
 use Rattle.acpi_make.specs.declared.file_kind.FileKind.{FileKind}
 use Rattle.acpi_make.specs.declared.file_kind.FileKind.TheVariants.{Table, Rsdp, Facs, Cdat, S3pt}
 use Rattle.acpi_make.specs.declared.extent.Own.{Own}
@@ -24,22 +25,34 @@ abbrev pub untrue : List Own → List ℕ → List Own
 untrue [] bytes = []
 untrue (one ∷ owns) bytes = if is_untrue one bytes then one ∷ untrue owns bytes else untrue owns bytes
 
--- the byte at an offset that would make the sum of the first n bytes zero, if they don't sum to zero
-abbrev pub untrue_sum : ℕ → ℕ → List ℕ → List Own
-untrue_sum offset n bytes =
-    if nat_lt offset (length bytes) && not (sum (take n bytes) % 256 == 0)
-    then own offset 1 ((slice_index bytes offset + complement (sum (take n bytes))) % 256) ∷ []
-    else []
+-- whether the first n bytes sum to zero
+abbrev pub sums_to_zero : ℕ → List ℕ → Bool
+sums_to_zero n bytes = sum (take n bytes) % 256 == 0
 
--- The checksums: of a table (ACPI 6.5, 5.2.6), of a pointer, for its first 20 bytes and for all (5.2.5.3), and of a table of
--- coherent devices (CDAT 1.03).
-abbrev pub untrue_sums : FileKind → List ℕ → List Own
-untrue_sums Table bytes = untrue_sum 9 (length bytes) bytes
-untrue_sums Rsdp bytes = untrue_sum 8 20 bytes ++ untrue_sum 32 (length bytes) bytes
-untrue_sums Facs bytes = []
-untrue_sums Cdat bytes = untrue_sum 5 (length bytes) bytes
-untrue_sums S3pt bytes = []
+-- The byte at an offset that makes the sum of the first n bytes zero. It is None if their sum is zero, either as they are or with
+-- the right numbers.
+abbrev pub untrue_sum : ℕ → ℕ → List ℕ → List ℕ → Option Own
+untrue_sum offset n bytes right =
+    if nat_lt offset (length right) && not (sums_to_zero n bytes) && not (sums_to_zero n right)
+    then Some (own offset 1 ((slice_index right offset + complement (sum (take n right))) % 256))
+    else None
+
+abbrev pub listed : Option Own → List Own
+listed (Some one) = one ∷ []
+listed None = []
+
+-- The checksums that aren't right, of the bytes as they are and of those with the right numbers: of a table (ACPI 6.5, 5.2.6), of
+-- a pointer, for its first 20 bytes and for all (5.2.5.3), and of a table of coherent devices (CDAT 1.03).
+abbrev pub untrue_sums : FileKind → List ℕ → List ℕ → List Own
+untrue_sums Table bytes right = listed (untrue_sum 9 (length bytes) bytes right)
+untrue_sums Rsdp bytes right =
+    listed (untrue_sum 8 20 bytes right)
+    ++ listed (untrue_sum 32 (length bytes) bytes (with_numbers (listed (untrue_sum 8 20 bytes right)) right))
+untrue_sums Facs bytes right = []
+untrue_sums Cdat bytes right = listed (untrue_sum 5 (length bytes) bytes right)
+untrue_sums S3pt bytes right = []
 
 -- the numbers that aren't in their fields, and the checksums that aren't right
 abbrev pub notes : FileKind → List Own → List ℕ → List Own
-notes file_kind owns bytes = untrue owns bytes ++ untrue_sums file_kind bytes
+notes file_kind owns bytes =
+    untrue owns bytes ++ untrue_sums file_kind bytes (with_numbers (untrue owns bytes) bytes)

@@ -1,7 +1,7 @@
 //! Which number of a text is the cause, where its lines aren't those of the text that shows the table.
 
-ghost use Rattle.std.specs.Prelude.{◌≡◌, ◌+◌, ◌≤◌, true, length, Option, Result, IfOk};
-ghost use Rattle.acpi_make.specs.Blamed.{first_untrue, another_own, has_field, with_number, with_numbers};
+ghost use Rattle.std.specs.Prelude.{◌≡◌, Option, Result, IfOk};
+ghost use Rattle.acpi_make.specs.Blamed.{first_untrue, another_own};
 ghost use Rattle.acpi_make.specs.Blamed.{has_lines, cause, blamed};
 ghost use Rattle.acpi_make.specs.Draft.{drafted, fault_in};
 ghost use Rattle.acpi_make.specs.Fault as declared;
@@ -17,7 +17,7 @@ use crate::extent::Own;
 use crate::fault::{Fault, MakeError};
 use crate::file_kind::FileKind;
 use crate::notes::is_untrue;
-use acpi_base::patch::write_at;
+use crate::right::set_numbers;
 use acpi_base::walk::Walk;
 use std::alloc::{AllocError, Global};
 
@@ -40,33 +40,6 @@ fn another_own(source: &Source, marks: &[Mark], own: Option<Own>) -> Option<Faul
     match own {
         Some(own) => another_at(source, marks, own.offset, own.number),
         None => None,
-    }
-}
-
-// Returns whether the field of a number is within this many bytes.
-fn has_field(own: &Own, size: usize) -> bool
-    ensures is { result ≡ has_field own.now size }
-    ensures few { result ≡ true → own.now.width ≤ 8 }
-    ensures within { result ≡ true → own.now.offset + own.now.width ≤ size }
-{
-    own.width <= 8 && own.offset <= size && own.width <= size.saturating_sub(own.offset)
-}
-
-// Writes a number into its field, if the field is there.
-fn set_number(own: &Own, bytes: &mut [u8])
-    ensures { bytes.new ≡ with_number own.now bytes.old }
-{
-    if has_field(own, bytes.len()) {
-        write_at(bytes, own.offset, &own.number.to_le_bytes()[..own.width]);
-    }
-}
-
-// Writes numbers into their fields.
-fn set_numbers(owns: &[Own], bytes: &mut [u8])
-    ensures { bytes.new ≡ with_numbers owns.now bytes.old }
-{
-    'owns: for own in owns {
-        set_number(own, bytes);
     }
 }
 

@@ -77,14 +77,14 @@ fn checksum(cells: &[Cell]) -> u8
     left
 }
 
-// Returns the first bytes, or all if there are fewer.
-fn front(count: usize, cells: &[Cell]) -> &[Cell]
-    ensures { result.now ≡ take count cells.now }
+/// Returns the first items, or all if there are fewer.
+pub fn front<T>(count: usize, items: &[T]) -> &[T]
+    ensures { result.now ≡ take count items.now }
 {
-    if count < cells.len() {
-        &cells[..count]
+    if count < items.len() {
+        &items[..count]
     } else {
-        cells
+        items
     }
 }
 

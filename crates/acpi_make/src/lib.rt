@@ -19,6 +19,7 @@ pub mod make;
 pub mod notes;
 pub mod own;
 pub mod read;
+mod right;
 mod run;
 pub mod short;
 pub mod signature;

@@ -9,8 +9,8 @@ use acpi_base::error::{Error, R};
 use acpi_base::object::Aml;
 use acpi_term::row::{framed, with_room};
 
-/// A list of elements, and room for so many (ACPI 6.5, 20.2.5.4, DefPackage: NumElements). The elements past those that are given
-/// are uninitialized (19.6.101).
+/// A list of elements, and the number of elements that there is room for (ACPI 6.5, 20.2.5.4, DefPackage: NumElements). The
+/// elements past those that are given are uninitialized (19.6.101).
 pub type RoomyPackage = Operation<Roomy, DefPackage>;
 
 /// The room, and then the elements.
