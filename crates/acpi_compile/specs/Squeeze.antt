@@ -86,6 +86,21 @@ unmarked text = text
 abbrev pub squeezed : List ℕ → List ℕ
 squeezed text = squeezed_from (Code Mark) (unmarked text)
 
+-- where the end of a text stands, which begins in this state
+abbrev pub state_after : State → List ℕ → State
+state_after state [] = state
+state_after state (c ∷ rest) = state_after (next_state state c) rest
+
+abbrev pub is_comment : State → Bool
+is_comment (Opened last) = true
+is_comment (Comment last) = true
+is_comment (Star last) = true
+is_comment _ = false
+
+-- whether a text ends in a comment that isn't kept and has no end
+abbrev pub ends_in_comment : List ℕ → Bool
+ends_in_comment text = is_comment (state_after (Code Mark) (unmarked text))
+
 -- ---- where a kept character stands
 
 -- how many lines end before what is kept of the character at a place, for a text from this state on

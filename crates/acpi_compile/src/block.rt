@@ -11,7 +11,7 @@ use crate::fault::{AslError, Why, fault, unwritten};
 use crate::node::{Node, list_of, word_node};
 use crate::note::after;
 use crate::number::decimal;
-use crate::squeeze::{begins_note, squeezed, word_at, word_len};
+use crate::squeeze::{begins_note, ends_in_comment, squeezed, word_at, word_len};
 use crate::stated::{first_use, last, stated};
 use crate::term::{Context, statements};
 use acpi_asl::block::{BlockText, has_terms, text_in_part, text_of_block};
@@ -202,6 +202,11 @@ fn word_start(kept: &[u8], at: usize) -> usize {
     start
 }
 
+// The place of the last word.
+fn last_word(kept: &[u8]) -> usize {
+    word_start(kept, kept.len().saturating_sub(1))
+}
+
 // The place of the first word, string or note that isn't the same.
 fn place_of(shown: &[u8], kept: &[u8]) -> usize {
     let at = same(shown, kept);
@@ -294,6 +299,9 @@ pub fn compile(alloc: Global, text: &[u8]) -> Result<Vec<u8>, AslError>
     ensures { IfOk result (λ block. IsCompiled text.now block.items) }
 {
     let kept = squeezed(alloc, text)?;
+    if ends_in_comment(text) {
+        return Err(fault(last_word(&kept), Why::Comment));
+    }
     let nodes = nodes_of(alloc, &kept)?;
     let [node, rest @ ..] = nodes.as_slice() else {
         return Err(fault(0, Why::Block));

@@ -242,6 +242,7 @@ pub fn nodes_of<'a>(alloc: Global, text: &'a [u8]) -> Result<Vec<Node<'a>>, AslE
             builder.no_note(text.len())?;
             Ok(builder.inner.nodes)
         }
+        Part::Note(from) => Err(fault(from, Why::Comment)),
         _ => Err(fault(text.len(), Why::Unfinished)),
     }
 }

@@ -24,10 +24,14 @@ pub enum Why {
     Symbol,
     /// A parenthesis, a brace or a string has no end.
     Unfinished,
+    /// A comment has no end. It begins here, or after this word.
+    Comment,
     /// The lists are nested too deep.
     TooDeep,
     /// A term has other arguments.
     Arguments,
+    /// A package has more elements than it says.
+    Elements,
     /// A number has another form than `0x` and two, four, eight or sixteen hexadecimal digits.
     Number,
     /// A number of one byte has another form than `0x` and two hexadecimal digits.
@@ -56,6 +60,10 @@ pub enum Why {
     Entry,
     /// A resource descriptor has no macro of this name, or the macro has another number of arguments.
     Descriptor,
+    /// A resource descriptor can't have one of these values, or this list.
+    Values,
+    /// A resource source has no index.
+    Index,
     /// A note isn't known, or not here.
     Note,
     /// A note has bytes that can't be read as terms.
@@ -126,8 +134,10 @@ impl Why {
             Why::Unexpected => text.push_str("not expected here"),
             Why::Symbol => text.push_str("operators are words here, such as Add and Store"),
             Why::Unfinished => text.push_str("a parenthesis, a brace or a string has no end"),
+            Why::Comment => text.push_str("a comment that begins here has no end"),
             Why::TooDeep => text.push_str("nested too deep"),
             Why::Arguments => text.push_str("other arguments are expected"),
+            Why::Elements => text.push_str("more elements than the package says"),
             Why::Number => text.push_str("a number is expected: 0x and 2, 4, 8 or 16 digits"),
             Why::OneByte => text.push_str("a number of one byte is expected: 0x and 2 digits"),
             Why::TwoBytes => text.push_str("a number of two bytes is expected: 0x and 4 digits"),
@@ -150,6 +160,10 @@ impl Why {
             Why::Descriptor => text.push_str(
                 "not a macro of a resource descriptor, or with another number of arguments",
             ),
+            Why::Values => {
+                text.push_str("the descriptor can't have one of these values, or this list")
+            }
+            Why::Index => text.push_str("a resource source needs an index before it"),
             Why::Note => text.push_str("the note isn't known here"),
             Why::Unread => text.push_str(
                 "these bytes can't be read as terms, so they make no block",

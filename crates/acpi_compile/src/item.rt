@@ -6,6 +6,7 @@ use crate::node::{Node, list_of};
 use crate::word::number_in;
 use acpi_asl::descriptor::{Bits, Braces, Check, Offset, Part, words};
 use acpi_asl::macros::{Descriptor, checks, descriptors, macro_word, parts, tail};
+use acpi_asl::template::is_template;
 use std::alloc::{AllocError, Global};
 
 /// The descriptor of a macro.
@@ -215,7 +216,15 @@ fn push_parts(
     if parts.len() != arguments.len() {
         return Err(fault(node.at, Why::Descriptor));
     }
+    let mut has_index = true;
     'parts: for (part, argument) in parts.iter().zip(arguments) {
+        match part {
+            Part::Index(_) => has_index = !argument.is_absent(),
+            Part::Source(_) if !has_index && !argument.is_absent() => {
+                return Err(fault(argument.at, Why::Index));
+            }
+            _ => {}
+        }
         push_part(alloc, *part, argument, item)?;
     }
     Ok(())
@@ -256,4 +265,17 @@ pub fn item(alloc: Global, node: &Node<'_>) -> Result<Vec<u8>, AslError> {
     push_parts(alloc, parts(descriptor), node, &mut item)?;
     set_size(&mut item);
     Ok(item)
+}
+
+/// Refuses a descriptor whose bytes no macro writes, as one with a list that is too long. `item` has its bytes.
+pub fn check_item(node: &Node<'_>, item: &mut Vec<u8>) -> Result<(), AslError> {
+    let size = item.len();
+    item.extend_from_slice(&[0x79, 0x00])?;
+    let is_written = is_template(item);
+    item.truncate(size);
+    if is_written {
+        Ok(())
+    } else {
+        Err(fault(node.at, Why::Values))
+    }
 }

@@ -3,7 +3,7 @@
 ghost use Rattle.std.specs.Prelude.{◌≡◌, ◌≤◌, ◌++◌, false, length, OnOk, IfOk};
 ghost use Rattle.acpi_compile.specs.Squeeze.{is_word, is_white, gapped, next_in_code, next_state, code_bytes, emitted};
 ghost use Rattle.acpi_compile.specs.Squeeze.{ending, unmarked, squeezed, line_of, front_len, note_len, text_len};
-ghost use Rattle.acpi_compile.specs.Squeeze.{begins_note, word_len, word_at};
+ghost use Rattle.acpi_compile.specs.Squeeze.{is_comment, state_after, ends_in_comment, begins_note, word_len, word_at};
 
 use acpi_base::slice::from_offset;
 use std::alloc::{AllocError, Global};
@@ -184,6 +184,27 @@ pub fn squeezed(alloc: Global, text: &[u8]) -> Result<Vec<u8>, AllocError>
     }
     push_ending(state, &mut kept)?;
     Ok(kept)
+}
+
+fn is_comment(state: State) -> bool
+    ensures { result ≡ is_comment state }
+{
+    match state {
+        State::Opened(_) | State::Comment(_) | State::Star(_) => true,
+        _ => false,
+    }
+}
+
+/// Returns whether a text ends in a comment that isn't kept and has no end.
+pub fn ends_in_comment(text: &[u8]) -> bool
+    ensures { result ≡ ends_in_comment text.now }
+{
+    let mut state = State::Code(Last::Mark);
+    let unmarked = unmarked(text);
+    'characters: for c in unmarked {
+        state = next_state(state, *c);
+    }
+    is_comment(state)
 }
 
 // Returns how many characters are kept of one.

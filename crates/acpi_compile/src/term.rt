@@ -293,7 +293,7 @@ fn counted_package(node: &Node<'_>, room: u8, elements: SizedList) -> Result<Siz
         return Ok(Sized { term, size });
     }
     if count > usize::from(room) {
-        return Err(wrong(node));
+        return Err(fault(node.at, Why::Elements));
     }
     Ok(Sized {
         term: Term::RoomyPackage {
@@ -417,6 +417,7 @@ fn acquire_operands(
     Ok(list)
 }
 
+// The operands of an operator. A target that is left out is a NullName, whose byte is that of Zero.
 #[cycle(term)]
 fn operands(
     context: &Context,
@@ -430,8 +431,16 @@ fn operands(
     if op == Op::Acquire {
         return acquire_operands(context, depth, node);
     }
-    let mut list = terms(context, depth, list_of(&node.arguments))?;
-    // The last target may be left out.
+    let mut list = SizedList::new(context.alloc);
+    let first_target = usize::from(op.operands()).saturating_sub(targets(op));
+    'operands: for (i, operand) in list_of(&node.arguments).iter().enumerate() {
+        if i >= first_target && operand.is_absent() && operand.has_known_note() {
+            list.add(number(0, 0))?;
+        } else {
+            list.add(term(context, depth, operand)?)?;
+        }
+    }
+    // The last target may be left out with its comma.
     if targets(op) > 0 && list.terms.len() + 1 == usize::from(op.operands()) {
         list.add(number(0, 0))?;
     }
@@ -537,7 +546,7 @@ fn keyword_term(context: &Context, depth: usize, node: &Node<'_>) -> Result<Size
     }
 }
 
-/// The term of a node. An argument that is left out is a NullName, whose byte is that of Zero.
+/// The term of a node.
 #[cycle(term)]
 fn term(context: &Context, depth: usize, node: &Node<'_>) -> Result<Sized, AslError> {
     let Some(depth) = depth.checked_sub(1) else {
@@ -551,7 +560,7 @@ fn term(context: &Context, depth: usize, node: &Node<'_>) -> Result<Sized, AslEr
         return alone(node, term);
     }
     match node.word {
-        [] if node.is_absent() => Ok(number(0, 0)),
+        [] if node.is_absent() => Err(fault(node.at, Why::Unexpected)),
         [] => Err(wrong(node)),
         [b'"', ..] => text_term(alloc, node),
         [b'0'..=b'9', ..] => number_term(node),

@@ -167,9 +167,9 @@ expected s d from to =
     or_fault (misnamed_here s d)
     (if is_strange s d then fault d.from d.to wants.Structure else field_expected s d from to)
 
--- a field may be left out if its number of bytes can be any
+-- a field may be left out if its number of bytes can be any, and so may a name over fields
 abbrev pub may_lack : Option (ℕ × Entry) → Bool
-may_lack (Some found) = found.1.size == 0 && not (found.1.width == 0)
+may_lack (Some found) = found.1.size == 0
 may_lack None = true
 
 -- a line of a field that comes too early: another has to stand there

@@ -156,12 +156,12 @@ fn unlike(from: usize, to: usize, form: &'static str, wanted: Option<(usize, Fie
     }
 }
 
-// Returns whether a field may be left out: its number of bytes can be any.
+// Returns whether a field may be left out: its number of bytes can be any, or it is a name over fields.
 fn may_lack(field: Option<(usize, Field)>) -> bool
     ensures { result ≡ may_lack (found_of field) }
 {
     match field {
-        Some((_, field)) => field.size == 0 && field.width != 0,
+        Some((_, field)) => field.size == 0,
         None => true,
     }
 }

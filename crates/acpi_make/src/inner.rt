@@ -23,8 +23,8 @@ fn titled_in(line: &[u8], forms: &[InnerForm]) -> Option<InnerForm>
     None
 }
 
-// Returns the first form of lists whose name a line is.
-fn titled(line: &[u8], lists: &[InnerList]) -> Option<InnerForm>
+/// Returns the first form of lists whose name a line is.
+pub fn titled(line: &[u8], lists: &[InnerList]) -> Option<InnerForm>
     ensures { result ≡ titled line.now lists.now }
 {
     'lists: for list in lists {
@@ -35,8 +35,8 @@ fn titled(line: &[u8], lists: &[InnerList]) -> Option<InnerForm>
     None
 }
 
-// Returns the offset of the next structure within, or of the next structure, or that of the table's end.
-fn next_titled(text: &[u8], lists: &[InnerList], marks: &[Mark], total: usize) -> usize
+/// Returns the offset of the next structure within, or of the next structure, or that of the table's end.
+pub fn next_titled(text: &[u8], lists: &[InnerList], marks: &[Mark], total: usize) -> usize
     ensures { result ≡ next_titled text.now lists.now marks.now total }
 {
     'marks: for mark in marks {
