@@ -22,6 +22,6 @@ pub mod place;
 mod room;
 mod row;
 mod special;
-mod template;
+pub mod template;
 mod unread;
 pub mod word;
