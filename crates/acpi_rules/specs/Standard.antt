@@ -328,6 +328,8 @@ bounded =
     ∷ rule "ECDT" Whole Always (spot 48 1 "Address Space ID") (between 0 1) "ACPI 6.5, 5.2.15"
     ∷ rule "HPET" Whole Always (spot 40 1 "Address Space ID") (between 0 1) "IA-PC HPET 1.0a, 3.2.4"
     ∷ rule "BGRT" Whole Always (spot 36 2 "Version") (between 1 1) "ACPI 6.5, 5.2.23"
+    ∷ rule "APIC" (Kind 0) (Is (DWord 4) 1 1) (spot 4 4 "Flags") (between 1 1) "ACPI 6.5, 5.2.12.2"
+    ∷ rule "APIC" (Kind 9) (Is (DWord 8) 1 1) (spot 8 4 "Flags") (between 1 1) "ACPI 6.5, 5.2.12.12"
     ∷ rule "APIC" (Kind 4) Always (spot 5 1 "Local APIC LINT#") (between 0 1) "ACPI 6.5, 5.2.12.7"
     ∷ rule "APIC" (Kind 10) Always (spot 8 1 "Local x2APIC LINT#") (between 0 1) "ACPI 6.5, 5.2.12.13"
     ∷ rule "PPTT" (Kind 1) (Is (DWord 4) 128 128) (spot 24 4 "Cache ID") (between 1 0xffffffff) "ACPI 6.5, 5.2.30.2"
@@ -343,6 +345,7 @@ bounded =
     ∷ rule "RHCT" Whole Always (spot 40 8 "Time Base Frequency") (between 1 0xffffffffffffffff) "ACPI 6.6"
     ∷ rule "TCPA" Whole (Is (Word 36) 65535 0) (spot 4 4 "Length") (between 50 50) "TCG ACPI Specification 1.4"
     ∷ rule "TCPA" Whole (Is (Word 36) 65535 1) (spot 4 4 "Length") (between 100 100) "TCG ACPI Specification 1.4"
+    ∷ rule "RSD " Whole (Is (DWord 20) 0xffffffff 36) (spot 15 1 "Revision") (between 2 255) "ACPI 6.5, 5.2.5.3"
     ∷ []
 
 -- Fields that are those of other structures of a table.

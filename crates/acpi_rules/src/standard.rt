@@ -411,7 +411,7 @@ const ALIGNED: [Relation; 12] = [
 
 // Ranges of fields at an offset of a table or of a structure. Some depend on other fields.
 #[rattlefmt::skip]
-const BOUNDED: [Relation; 25] = [
+const BOUNDED: [Relation; 28] = [
     rule!("FACP", Whole, Is(DWord(112), 1024, 1024), spot!(116, 1, "Address Space ID"), Between(0, 2), "ACPI 6.5, 5.2.9"),
     rule!("FACP", Whole, Is(DWord(112), 1024, 1024), spot!(117, 1, "Register Bit Width"), Between(8, 8), "ACPI 6.5, 5.2.9"),
     rule!("FACP", Whole, Is(DWord(112), 1024, 1024), spot!(118, 1, "Register Bit Offset"), Between(0, 0), "ACPI 6.5, 5.2.9"),
@@ -424,6 +424,9 @@ const BOUNDED: [Relation; 25] = [
     rule!("ECDT", Whole, Always, spot!(48, 1, "Address Space ID"), Between(0, 1), "ACPI 6.5, 5.2.15"),
     rule!("HPET", Whole, Always, spot!(40, 1, "Address Space ID"), Between(0, 1), "IA-PC HPET 1.0a, 3.2.4"),
     rule!("BGRT", Whole, Always, spot!(36, 2, "Version"), Between(1, 1), "ACPI 6.5, 5.2.23"),
+    // If a processor is enabled, its other flag, Online Capable, is zero.
+    rule!("APIC", Kind(0), Is(DWord(4), 1, 1), spot!(4, 4, "Flags"), Between(1, 1), "ACPI 6.5, 5.2.12.2"),
+    rule!("APIC", Kind(9), Is(DWord(8), 1, 1), spot!(8, 4, "Flags"), Between(1, 1), "ACPI 6.5, 5.2.12.12"),
     rule!("APIC", Kind(4), Always, spot!(5, 1, "Local APIC LINT#"), Between(0, 1), "ACPI 6.5, 5.2.12.7"),
     rule!("APIC", Kind(10), Always, spot!(8, 1, "Local x2APIC LINT#"), Between(0, 1), "ACPI 6.5, 5.2.12.13"),
     rule!("PPTT", Kind(1), Is(DWord(4), 128, 128), spot!(24, 4, "Cache ID"), Between(1, 0xffff_ffff), "ACPI 6.5, 5.2.30.2"),
@@ -442,6 +445,8 @@ const BOUNDED: [Relation; 25] = [
     rule!("RHCT", Whole, Always, spot!(40, 8, "Time Base Frequency"), Between(1, 0xffff_ffff_ffff_ffff), "ACPI 6.6"),
     rule!("TCPA", Whole, Is(Word(36), 65535, 0), spot!(4, 4, "Length"), Between(50, 50), "TCG ACPI Specification 1.4"),
     rule!("TCPA", Whole, Is(Word(36), 65535, 1), spot!(4, 4, "Length"), Between(100, 100), "TCG ACPI Specification 1.4"),
+    // An RSDP of 36 bytes.
+    rule!("RSD ", Whole, Is(DWord(20), 0xffff_ffff, 36), spot!(15, 1, "Revision"), Between(2, 255), "ACPI 6.5, 5.2.5.3"),
 ];
 
 /// The rules on fields that are those of other structures of a table.
