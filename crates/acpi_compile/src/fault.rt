@@ -24,7 +24,7 @@ pub enum Why {
     Symbol,
     /// A parenthesis, a brace or a string has no end.
     Unfinished,
-    /// A comment has no end. It begins here, or after this word.
+    /// A comment has no end. It begins here if it is a note, and otherwise after this word.
     Comment,
     /// The lists are nested too deep.
     TooDeep,
@@ -134,7 +134,7 @@ impl Why {
             Why::Unexpected => text.push_str("not expected here"),
             Why::Symbol => text.push_str("operators are words here, such as Add and Store"),
             Why::Unfinished => text.push_str("a parenthesis, a brace or a string has no end"),
-            Why::Comment => text.push_str("a comment that begins here has no end"),
+            Why::Comment => text.push_str("a comment has no end"),
             Why::TooDeep => text.push_str("nested too deep"),
             Why::Arguments => text.push_str("other arguments are expected"),
             Why::Elements => text.push_str("more elements than the package says"),
