@@ -424,9 +424,9 @@ const BOUNDED: [Relation; 28] = [
     rule!("ECDT", Whole, Always, spot!(48, 1, "Address Space ID"), Between(0, 1), "ACPI 6.5, 5.2.15"),
     rule!("HPET", Whole, Always, spot!(40, 1, "Address Space ID"), Between(0, 1), "IA-PC HPET 1.0a, 3.2.4"),
     rule!("BGRT", Whole, Always, spot!(36, 2, "Version"), Between(1, 1), "ACPI 6.5, 5.2.23"),
-    // If a processor is enabled, its other flag, Online Capable, is zero.
-    rule!("APIC", Kind(0), Is(DWord(4), 1, 1), spot!(4, 4, "Flags"), Between(1, 1), "ACPI 6.5, 5.2.12.2"),
-    rule!("APIC", Kind(9), Is(DWord(8), 1, 1), spot!(8, 4, "Flags"), Between(1, 1), "ACPI 6.5, 5.2.12.12"),
+    // A processor is enabled, or can be online later, but not both.
+    rule!("APIC", Kind(0), Is(DWord(4), 3, 3), spot!(4, 4, "Flags"), Between(1, 1), "ACPI 6.5, 5.2.12.2"),
+    rule!("APIC", Kind(9), Is(DWord(8), 3, 3), spot!(8, 4, "Flags"), Between(1, 1), "ACPI 6.5, 5.2.12.12"),
     rule!("APIC", Kind(4), Always, spot!(5, 1, "Local APIC LINT#"), Between(0, 1), "ACPI 6.5, 5.2.12.7"),
     rule!("APIC", Kind(10), Always, spot!(8, 1, "Local x2APIC LINT#"), Between(0, 1), "ACPI 6.5, 5.2.12.13"),
     rule!("PPTT", Kind(1), Is(DWord(4), 128, 128), spot!(24, 4, "Cache ID"), Between(1, 0xffff_ffff), "ACPI 6.5, 5.2.30.2"),
