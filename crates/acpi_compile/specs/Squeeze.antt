@@ -1,7 +1,7 @@
 -- The text of ASL without what a compiler skips: white space and comments (ACPI 6.5, 19.2.1). One space is left between two
 -- words.
 -- Of a comment that begins with `/*=` all is kept.
-use Rattle.std.specs.Prelude.{ℕ, ◌+◌, ◌-◌, nat_le, nat_lt, ◌==◌, ◌&&◌, ◌||◌, not, Bool, false, if◌then◌else◌}
+use Rattle.std.specs.Prelude.{ℕ, ◌+◌, ◌-◌, nat_le, nat_lt, ◌==◌, ◌&&◌, ◌||◌, not, Bool, true, false, if◌then◌else◌}
 use Rattle.std.specs.Prelude.{List, [], ◌∷◌, ◌++◌, length}
 use Rattle.std.specs.Prelude.{nat_eq, take, drop, codes}
 use Rattle.std.specs.List.{starts_with}
