@@ -109,7 +109,8 @@ run_all acpiread "$work/read" >"$work/lines"
 expect "$work/lines" tools/demo/read.txt
 
 echo
-echo '3. acpitool shows each table as text (here the MCFG), makes the MCFG from its text again, and finds and checks the tables of the image.'
+echo '3. acpitool shows each table as text (here the MCFG), makes the MCFG from its text again,'
+echo '   and finds and checks the tables of the image.'
 if [ -n "$tool" ]; then
     wait "$tool" || fail 'acpitool failed'
 else

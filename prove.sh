@@ -17,4 +17,5 @@ esac
 
 sh demo.sh built
 sh tools/runs.sh
-[ "${1-}" = built ] || echo 'These programs are proved: crates/acpi_example/out/acpi_example, and the same for acpiread and acpitool.'
+[ "${1-}" = built ] ||
+    echo 'These programs are proved: crates/acpi_example/out/acpi_example, and the same for acpiread and acpitool.'

@@ -137,13 +137,15 @@ hidden = ("hyssop_export_fault_name", "hyssop_export_null", "hyssop_export_begin
 wanted = [(name.replace("_export", ""), seen(given)) for name, given in in_c.items() if name not in hidden]
 wanted += [("hyssop_fault_words", ["number"]), ("hyssop_begin", ["writer", "bytes", "bytes_size"])]
 same = {"out_count": "out_size", "ranges_count": "ranges_size", "count": "size"}
-compare("hyssop.h", "function", wanted, [(name, [same.get(typed(it)[1], typed(it)[1]) for it in given]) for _, name, given in public])
+named = [(name, [same.get(typed(it)[1], typed(it)[1]) for it in given]) for _, name, given in public]
+compare("hyssop.h", "function", wanted, named)
 declared = [
     f"pub fn {name}({in_rust(given)}) -> " + ("*const c_char" if result == "const char *" else RUST[result])
     for result, name, given in public
 ]
 found = re.findall(r"(pub fn \w+)\(([^)]*)\) -> ([^;]*);", rust)
-compare("hyssop.rs", "declaration", declared, [f"{name}({', '.join(parameters(given))}) -> {result}" for name, given, result in found])
+in_file = [f"{name}({', '.join(parameters(given))}) -> {result}" for name, given, result in found]
+compare("hyssop.rs", "declaration", declared, in_file)
 
 # The fields of the structs: a type of the source, and that of hyssop.h.
 C_FIELDS = {

@@ -5,8 +5,8 @@
 - `methods`: a DSDT of COUNT methods, the last of which calls each.
 - `devices`: a DSDT of COUNT devices, each with an id, a number and resources, in 47 bytes.
 - `asl`: the ASL of COUNT such devices.
-- `code`: a DSDT of COUNT devices, each with two methods, in 86 bytes. The methods name objects in their scope, in the root, and by
-  a path, and call another one.
+- `code`: a DSDT of COUNT devices, each with two methods, in 86 bytes. The methods name objects in their scope, in the root, and
+  by a path, and call another one.
 - `image`: the image of COUNT tables besides FADT, FACS and DSDT, with the base 0.
 """
 

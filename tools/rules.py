@@ -20,8 +20,9 @@ BEGIN, END = "<!-- rules: tools/rules.py makes these lines -->\n", "<!-- end of 
 BEGIN_SEVERAL = "<!-- rules on several tables: tools/rules.py makes these lines -->\n"
 END_SEVERAL = "<!-- end of rules on several tables -->\n"
 NAMES = {"Differs": "unique", "Apart": "overlap", "Disjoint": "disjoint", "AtMost": "at-most", "Addresses": "no-overflow"}
-NAMES.update({"Counts": "count", "Agrees": "pair", "Needed": "required", "Needs": "needs", "Between": "range", "Multiple": "multiple"})
-NAMES.update({"Points": "reference", "Refers": "reference", "Ends": "cycle", "Distances": "distance", "Includes": "present"})
+NAMES.update({"Counts": "count", "Agrees": "pair", "Needed": "required", "Needs": "needs", "Between": "range"})
+NAMES.update({"Multiple": "multiple", "Points": "reference", "Refers": "reference", "Ends": "cycle", "Distances": "distance"})
+NAMES.update({"Includes": "present"})
 
 
 def stop(why):
@@ -211,7 +212,10 @@ def wrapped(line):
 
 def once(text):
     """Returns a line for each rule on tables that a machine has once."""
-    said = {"SINGLES": "`single`: there is one table of each of", "COPIED": "`copy`: no two tables have the same bytes, of each of"}
+    said = {
+        "SINGLES": "`single`: there is one table of each of",
+        "COPIED": "`copy`: no two tables have the same bytes, of each of",
+    }
     for name, body in re.findall(r"^const (\w+): \[Once; \d+\] = \[\n(.*?)^\];$", text, re.MULTILINE | re.DOTALL):
         rows = re.findall(r'^    only!\("(.*?)", "(.*?)"\),$', body, re.MULTILINE)
         if len(rows) != body.count("\n"):
@@ -291,7 +295,8 @@ def main():
         with open(DOCUMENT, "w", encoding="utf-8") as file:
             file.write(wanted)
     elif document != wanted:
-        stop(f"the rules in {DOCUMENT} aren't those of {SOURCE}, {MACHINE} and {SINGLE}: `python3 -B tools/rules.py renew` writes them")
+        sources = f"{SOURCE}, {MACHINE} and {SINGLE}"
+        stop(f"the rules in {DOCUMENT} aren't those of {sources}: `python3 -B tools/rules.py renew` writes them")
 
 
 main()

@@ -82,7 +82,8 @@ pub fn fadt_table(r: &mut Random) -> Vec<u8> {
     let mut fields = fadt::FADTBuilder::new(r.array(), r.array(), r.u32());
     set_fields! { fields, r:
         u8: s4bios_req pstate_cnt pm1_evt_len pm1_cnt_len pm2_cnt_len pm_tmr_len gpe0_blk_len gpe1_blk_len gpe1_base cst_cnt
-            duty_offset duty_width day_alrm mon_alrm century reset_value fadt_minor_version major_version acpi_enable acpi_disable;
+            duty_offset duty_width day_alrm mon_alrm century reset_value fadt_minor_version major_version acpi_enable
+            acpi_disable;
         u16: sci_int p_lvl2_lat p_lvl3_lat flush_size flush_stride iapc_boot_arch arm_boot_arch;
         u32: firmware_ctrl dsdt smi_cmd pm1a_evt_blk pm1b_evt_blk pm1a_cnt_blk pm1b_cnt_blk pm2_cnt_blk pm_tmr_blk gpe0_blk
             gpe1_blk flags;
