@@ -130,7 +130,8 @@ def demand(text, named):
     if kind == "Addresses":
         return f"ends before 2^64 with {spot(arguments[0])[2]}"
     if kind == "Counts":
-        return f"counts what has {arguments[1]} bytes each after offset {arguments[0]}, and there are as many bytes"
+        each = "one byte" if arguments[1] == "1" else f"{arguments[1]} bytes"
+        return f"is at most the number of entries of {each} for which there is space from offset {arguments[0]} on"
     if kind == "Agrees":
         return f"is {spot(arguments[0])[2]}, unless one of them is zero"
     if kind == "Needed":
@@ -267,7 +268,7 @@ def listed(rows):
         tables.setdefault(table, []).append(row)
     out = []
     for table in sorted(tables):
-        out += ["", f"**{table}**", ""]
+        out += ["", f"**{table.strip()}**", ""]
         for rule, field, allowed, section in tables[table]:
             out.append(wrapped(f"- `{rule}` of {field}: {allowed} ({section})"))
     return "\n".join(out[1:]) + "\n"
