@@ -341,7 +341,7 @@ static void try_null(void) {
 }
 
 /* A table of 36 bytes (ACPI 6.5, 5.2.6) whose length and checksum are stated wrongly: 37 in place of 36, and 1 in place of the
-   number that makes the sum zero. */
+   number that makes the sum zero with the right length. */
 static void try_notes(void) {
     static const char text[] = "Table\n  Signature: \"OEM1\"\n  Length: 00000025\n  Revision: 01\n  Checksum: 01\n"
                                "  OEM ID: \"FOOBAR\"\n  OEM Table ID: \"CAFEDEAD\"\n  OEM Revision: 00000001\n"
@@ -350,7 +350,7 @@ static void try_notes(void) {
     want(make(text, length, 36) == 0 && size == 36);
     uint8_t sum = 0;
     for (size_t i = 0; i < 36; i++)
-        sum = (uint8_t)(sum + (output.end - 36)[i]);
+        sum = (uint8_t)(sum + (i == 4 ? 36 : (output.end - 36)[i]));
     want(notes(text, length, 1) == HYSSOP_FAULT_BUFFER && size == 2);
     want(notes(text, length, 2) == 0 && size == 2 && place == 0);
     const struct hyssop_note *all = (const struct hyssop_note *)(const void *)(output.end - 2 * sizeof *all);
