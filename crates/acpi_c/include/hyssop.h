@@ -323,8 +323,8 @@ HYSSOP_RESULT enum hyssop_fault hyssop_findings(const void *bytes, size_t bytes_
 HYSSOP_RESULT enum hyssop_fault hyssop_make(const char *text, size_t text_size, void *out, size_t out_size, size_t *size,
                                             uint64_t *place);
 
-/* Writes the lengths, counts and checksums that such a text states wrongly. hyssop_make writes them as they are stated. *place is
-   a line, counted from 1. */
+/* Writes the lengths, counts and checksums that such a text states wrongly, with the right ones. A checksum is that of the table
+   with the right numbers. hyssop_make writes the table as the text states it. *place is a line, counted from 1. */
 HYSSOP_RESULT enum hyssop_fault hyssop_make_notes(const char *text, size_t text_size, struct hyssop_note *out, size_t out_count,
                                                   size_t *count, uint64_t *place);
 
