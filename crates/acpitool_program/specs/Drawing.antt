@@ -2,9 +2,9 @@
 use Rattle.std.specs.Prelude.{◌≡◌, ◌⊎◌, ℕ, Bool, true, false, List, [], ◌∷◌, ◌++◌, Option, Some, None, codes}
 use Rattle.std.specs.Io.KnownBytes.{Keeps, Appends}
 use Rattle.acpi_base.specs.Bytes.{field_at}
-use Rattle.acpi_base.specs.FurtherWalk.{table_walk_of}
 use Rattle.acpi_base.specs.Table.{IsTrueTable}
 use Rattle.acpi_base.specs.declared.walk.Walk.{Walk}
+use Rattle.acpi_forms.specs.Layout.{walk_in}
 use Rattle.acpi_layout.specs.declared.located.Located.{Located}
 use Rattle.acpi_tree.specs.Dot.{dot_text}
 use Rattle.acpi_tree.specs.Image.{image_tree, image_dot}
@@ -26,11 +26,11 @@ drawn false walk table = tree_text walk table
 -- the bytes are a table that has structures
 pub record HasWalk (bytes : List ℕ) (walk : Walk) : Type 0 where
   pub table : IsTrueTable bytes
-  pub is : table_walk_of (field_at 0 4 bytes) ≡ Some walk
+  pub is : walk_in (field_at 0 4 bytes) bytes ≡ Some walk
 
 -- they are a table without structures
 pub record HasNoWalk (bytes : List ℕ) (fault : Fault) : Type 0 where
-  pub none : table_walk_of (field_at 0 4 bytes) ≡ None
+  pub none : walk_in (field_at 0 4 bytes) bytes ≡ None
   pub says : Says (Some 0) (codes "a table without structures") fault
 
 abbrev pub IsUndrawn : List ℕ → Fault → Type 0

@@ -13,8 +13,8 @@ use crate::listing::tell_no_image;
 use crate::outcome::{tell_fault, tell_unread};
 use crate::placed::{Placed, image_in};
 use crate::structures::table_fault;
-use acpi_base::further_walk::table_walk_of;
 use acpi_base::walk::Walk;
+use acpi_forms::layout::walk_in;
 use acpi_layout::located::Located;
 use acpi_read::pieces::signature_number;
 use acpi_read::table::Table;
@@ -33,13 +33,13 @@ const NO_STRUCTURES: Fault = Fault {
 };
 
 // Returns the table that bytes are, and how its structures are found, or what is wrong with the bytes, and where.
-fn walk_in(bytes: &[u8]) -> Result<(Table<'_>, Walk), Fault>
+fn table_walk(bytes: &[u8]) -> Result<(Table<'_>, Walk), Fault>
     ensures table { IfOk result (λ found. found.0 ≡ bytes.now) }
     ensures walk { IfOk result (λ found. HasWalk bytes.now found.1) }
     ensures err { IfErr result (IsUndrawn bytes.now) }
 {
     let table = headed(bytes)?;
-    match table_walk_of(signature_number(&table)) {
+    match walk_in(signature_number(&table), bytes) {
         Some(walk) => Ok((table, walk)),
         None => Err(NO_STRUCTURES),
     }
@@ -82,7 +82,7 @@ fn draw_bytes<O: Write, E: Write>(
     ensures { IfOk result (λ status. DrawsBytes dot name.now bytes.now (O.contents out.old) (O.contents out.new)
         (E.contents err.old) (E.contents err.new) status) }
 {
-    match walk_in(bytes) {
+    match table_walk(bytes) {
         Ok((table, walk)) => {
             let text = drawn(alloc, dot, walk, bytes)?;
             out.write_all(&text)?;
