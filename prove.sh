@@ -1,7 +1,7 @@
 #!/bin/sh
 # Proves acpi_example, acpiread, acpitool and every crate that they stand on, and builds them. Then the proved programs do what
-# demo.sh shows, and what tools/runs.sh adds. It takes half an hour on four processors, and prints a line for each crate. It can
-# be ended at any time (Ctrl-C): the next run goes on with what isn't proved yet. Once all is proved, a run takes seconds. With
+# demo.sh shows, and what tools/runs.sh adds. It takes more than an hour on four processors, and prints a line for each crate. It
+# can be ended at any time (Ctrl-C): the next run goes on with what isn't proved yet. Once all is proved, a run takes seconds. With
 # `built`, the programs are those that `rt ci` left, and nothing is proved.
 set -eu
 cd "$(dirname "$0")"
