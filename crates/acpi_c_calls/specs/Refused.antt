@@ -103,6 +103,7 @@ fault_of_wanted wanted.Width = fault.WantsWidth
 fault_of_wanted wanted.Whole = fault.WantsWhole
 fault_of_wanted wanted.OneTable = fault.WantsOneTable
 fault_of_wanted wanted.Table = fault.WantsTable
+fault_of_wanted wanted.Indented = fault.WantsIndented
 fault_of_wanted wanted.FieldOf = fault.WantsFieldOf
 fault_of_wanted wanted.AnotherNumber = fault.WantsAnotherNumber
 

@@ -70,6 +70,7 @@ pub enum Fault {
     WantsFieldOf,
     WantsAnotherNumber,
     NotAsl,
+    WantsIndented,
     NamePart,
     PathParts,
     EisaText,
@@ -157,6 +158,7 @@ macro_rules! faults {
             WantsFieldOf 87 "expected a field"
             WantsAnotherNumber 88 "expected another number"
             NotAsl 89 "the text isn't the ASL of a definition block"
+            WantsIndented 90 "expected white space before a field"
             NamePart 96 "a part of a path doesn't have four bytes"
             PathParts 97 "a path has more than 255 parts"
             EisaText 98 "an EISA id is three letters from A to Z and four hexadecimal digits"

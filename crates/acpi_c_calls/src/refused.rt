@@ -105,6 +105,7 @@ fn fault_of_wanted(wanted: Wanted) -> Fault
         Wanted::Whole => Fault::WantsWhole,
         Wanted::OneTable => Fault::WantsOneTable,
         Wanted::Table => Fault::WantsTable,
+        Wanted::Indented => Fault::WantsIndented,
         Wanted::FieldOf => Fault::WantsFieldOf,
         Wanted::AnotherNumber => Fault::WantsAnotherNumber,
     }

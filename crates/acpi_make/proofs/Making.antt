@@ -20,7 +20,9 @@ use Rattle.acpi_make.specs.Made.{Table, sizes_own, made_of, unless, finished, or
 use Rattle.acpi_make.specs.Meaning.{read}
 use Rattle.acpi_make.specs.Own.{next_start, next_line, none_own, table_own, references_own}
 use Rattle.acpi_make.specs.Heading.{structure_form}
-use Rattle.acpi_make.specs.Short.{any_left, size_place, inner_place, short_structure, short_titled, short_inners, short_within}
+use Rattle.acpi_make.specs.Lack.{lists_of}
+use Rattle.acpi_make.specs.Short.{any_left, size_place, inner_place, leaves_out}
+use Rattle.acpi_make.specs.Short.{short_structure, short_titled, short_inners, short_within}
 use Rattle.acpi_make.specs.Short.{short_of_form, short_in, short_table, short}
 use Rattle.acpi_make.specs.Source.{Source}
 use Rattle.acpi_make.specs.Text.{part_at}
@@ -187,42 +189,40 @@ any_known (suc w) (b ∷ bytes) = any_known w bytes
 none_out : (w k : ℕ) (bytes : List ℕ) → any_left w (drop k (known_cells bytes)) ≡ false
 none_out w k bytes = ap (any_left w) (drop_known k bytes) ∙ any_known w (drop k bytes)
 
-unless_left : (a b : Bool) (wrong : Fault) → a ≡ false → cond (a && b) (Some wrong) None ≡ None
-unless_left true b wrong is = absurd cc
-unless_left false b wrong is = refl
+unless_left : (a : Bool) (wrong : Option Fault) → a ≡ false → cond a wrong None ≡ None
+unless_left true wrong is = absurd cc
+unless_left false wrong is = refl
 
-structure_whole : (place : Place) (bytes : List ℕ) (at size from to : ℕ) (form : Option StructureForm)
-    → short_structure place (known_cells bytes) at size from to form ≡ None
-structure_whole place bytes at size from to None = refl
-structure_whole place bytes at size from to (Some form) =
-    unless_left (any_left (place_width place) (drop (place_offset place) (drop at (known_cells bytes)))) _ _
-    (ap (λ cells. any_left (place_width place) (drop (place_offset place) cells)) (drop_known at bytes)
-    ∙ none_out (place_width place) (place_offset place) (drop at bytes))
+place_whole : (place : Place) (at : ℕ) (bytes : List ℕ) → leaves_out place at (known_cells bytes) ≡ false
+place_whole place at bytes =
+    ap (λ cells. any_left (place_width place) (drop (place_offset place) cells)) (drop_known at bytes)
+    ∙ none_out (place_width place) (place_offset place) (drop at bytes)
 
-titled_whole : (bytes : List ℕ) (at size from to : ℕ) (form : Option InnerForm) → short_titled (known_cells bytes) at size from to form ≡ None
-titled_whole bytes at size from to None = refl
-titled_whole bytes at size from to (Some form) =
-    let place = inner_place form.size in
-    unless_left (any_left (place_width place) (drop (place_offset place) (drop at (known_cells bytes)))) _ _
-    (ap (λ cells. any_left (place_width place) (drop (place_offset place) cells)) (drop_known at bytes)
-    ∙ none_out (place_width place) (place_offset place) (drop at bytes))
+structure_whole : (text : List ℕ) (place : Place) (bytes : List ℕ) (marks : List Mark) (at from to : ℕ) (form : Option StructureForm)
+    → short_structure text place (known_cells bytes) marks at from to form ≡ None
+structure_whole text place bytes marks at from to None = refl
+structure_whole text place bytes marks at from to (Some form) =
+    unless_left (leaves_out place at (known_cells bytes)) _ (place_whole place at bytes)
+
+titled_whole : (text : List ℕ) (lists : List InnerList) (bytes : List ℕ) (marks : List Mark) (at from to : ℕ)
+    (form : Option InnerForm) → short_titled text lists (known_cells bytes) marks at from to form ≡ None
+titled_whole text lists bytes marks at from to None = refl
+titled_whole text lists bytes marks at from to (Some form) =
+    unless_left (leaves_out (inner_place form.size) at (known_cells bytes)) _ (place_whole (inner_place form.size) at bytes)
 
 inners_whole : (text : List ℕ) (lists : List InnerList) (bytes : List ℕ) (marks : List Mark)
     → short_inners text lists (known_cells bytes) marks ≡ None
 inners_whole text lists bytes [] = refl
 inners_whole text lists bytes (Structure at from to ∷ marks) = refl
 inners_whole text lists bytes (Line at from to ∷ marks) =
-    ap (λ first. first_of first (short_inners text lists (known_cells bytes) marks)) (titled_whole bytes at _ from to _)
+    ap (λ first. first_of first (short_inners text lists (known_cells bytes) marks))
+    (titled_whole text lists bytes marks at from to _)
     ∙ inners_whole text lists bytes marks
 inners_whole text lists bytes (Reference at w from to ∷ marks) = inners_whole text lists bytes marks
 
-within_whole : (text : List ℕ) (inner : Inner) (bytes : List ℕ) (marks : List Mark) → short_within text inner (known_cells bytes) marks ≡ None
-within_whole text Nothing bytes marks = refl
-within_whole text (Lists start lists) bytes marks = inners_whole text lists.now bytes marks
-
 form_whole : (text : List ℕ) (form : Option StructureForm) (bytes : List ℕ) (marks : List Mark)
     → short_of_form text form (known_cells bytes) marks ≡ None
-form_whole text (Some form) bytes marks = within_whole text form.inner.now bytes marks
+form_whole text (Some form) bytes marks = inners_whole text (lists_of form.inner.now) bytes marks
 form_whole text None bytes marks = refl
 
 structures_whole : (s : Source) (place : Place) (bytes : List ℕ) (marks : List Mark) → short_in s place (known_cells bytes) marks ≡ None
@@ -231,7 +231,7 @@ structures_whole s place bytes (Structure at from to ∷ marks) =
     let form = structure_form s.kind (all_forms s.form) (part_at from to s.text) (drop at (known_cells bytes)) in
     let within = short_of_form s.text form (known_cells bytes) marks in
     ap (λ first. first_of first (first_of within (short_in s place (known_cells bytes) marks)))
-    (structure_whole place bytes at _ from to form)
+    (structure_whole s.text place bytes marks at from to form)
     ∙ ap (λ first. first_of first (short_in s place (known_cells bytes) marks)) (form_whole s.text form bytes marks)
     ∙ structures_whole s place bytes marks
 structures_whole s place bytes (Line at from to ∷ marks) = structures_whole s place bytes marks
@@ -242,12 +242,12 @@ all_whole : (file_kind : FileKind) (walk : Option Walk) (s : Source) (d : Drafte
 all_whole file_kind walk s d bytes is =
     let rest : List Cell → Option Fault = λ cells.
     first_of (short_within s.text s.form.inner.now cells d.marks) (short_in s (size_place walk) cells d.marks) in
-    ap (λ cells. first_of (short_table file_kind s cells d.marks (next_start d.marks (length cells))) (rest cells)) is
+    ap (λ cells. first_of (short_table file_kind s cells d.marks) (rest cells)) is
     ∙ ap (λ first. first_of first (rest (known_cells bytes)))
-    (unless_left (any_left 4 (drop (length_own file_kind (length (known_cells bytes))).offset (known_cells bytes))) _ _
+    (unless_left (any_left 4 (drop (length_own file_kind (length (known_cells bytes))).offset (known_cells bytes))) _
     (none_out 4 (length_own file_kind (length (known_cells bytes))).offset bytes))
     ∙ ap (λ first. first_of first (short_in s (size_place walk) (known_cells bytes) d.marks))
-    (within_whole s.text s.form.inner.now bytes d.marks)
+    (inners_whole s.text (lists_of s.form.inner.now) bytes d.marks)
     ∙ structures_whole s (size_place walk) bytes d.marks
 
 -- ---- a text and itself

@@ -6,11 +6,11 @@ use Rattle.acpi_text.specs.Structure.{all_forms, form_parts, form_inner}
 use Rattle.acpi_text.specs.declared.form.Inner.{Inner}
 use Rattle.acpi_text.specs.declared.form.Part.{Part}
 use Rattle.acpi_text.specs.declared.form.StructureForm.{StructureForm}
-use Rattle.acpi_make.specs.Entry.{Entry, entry_of, parts_entries, inner_entries, is_line_of, find_entry, next_entry, next_number}
+use Rattle.acpi_make.specs.Entry.{Entry, entry_of, parts_entries, inner_entries, is_line_of, find_entry, next_entry, next_number, is_once}
 use Rattle.acpi_make.specs.Fault.{Fault, fault_of, fault, next, wide, field_of}
 use Rattle.acpi_make.specs.Fits.{fits}
 use Rattle.acpi_make.specs.Gives.{and_then}
-use Rattle.acpi_make.specs.Heading.{structure_form}
+use Rattle.acpi_make.specs.Heading.{is_field, structure_form}
 use Rattle.acpi_make.specs.Item.{known_cells}
 use Rattle.acpi_make.specs.Another.{misnamed}
 use Rattle.acpi_make.specs.Source.{Source}
@@ -46,7 +46,7 @@ pub record Drafted : Type 0 where
   pub line_at : ℕ
   pub line_from : ℕ
   pub line_to : ℕ
-  -- the first line that isn't as the form has it, and the first of a field that comes too early
+  -- the first line that isn't as the form has it, and the first of a field that comes too early, or once more
   pub doubt : Option Fault
   pub early : Option Fault
 
@@ -161,21 +161,29 @@ field_expected s d from to =
     if d.loose then field_of from to (form_here s d)
     else unlike from to (form_here s d) (find_entry 0 d.number [] (entries_here s d))
 
+-- a heading that is no structure's name: it may be the line of a field
+abbrev pub strange : ℕ → ℕ → List ℕ → Fault
+strange from to text = fault from to (if is_field (part_at from to text) then wants.Indented else wants.Structure)
+
 -- what is wrong with a line that isn't as the form has it: the type before it, the structure's name, or the line itself
 abbrev pub expected : Source → Drafted → ℕ → ℕ → Fault
 expected s d from to =
     or_fault (misnamed_here s d)
-    (if is_strange s d then fault d.from d.to wants.Structure else field_expected s d from to)
+    (if is_strange s d then strange d.from d.to s.text else field_expected s d from to)
 
 -- a field may be left out if its number of bytes can be any, and so may a name over fields
 abbrev pub may_lack : Option (ℕ × Entry) → Bool
 may_lack (Some found) = found.1.size == 0
 may_lack None = true
 
--- a line of a field that comes too early: another has to stand there
-abbrev pub early_doubt : Source → Drafted → ℕ → ℕ → ℕ → Option Fault
-early_doubt s d from to k =
-    if is_doubted d.early || (nat_le k d.number || (d.loose || may_lack (find_entry 0 d.number [] (entries_here s d)))) then None
+-- whether a line of the field with this number may come here: it is the next one, or one of a list, which comes again
+abbrev pub may_come : Source → Drafted → List ℕ → ℕ → Bool
+may_come s d name k = if nat_lt k d.number then not (is_once 0 k name (parts_here s d)) else k == d.number
+
+-- a line of a field that comes too early, or once more: another has to stand there
+abbrev pub early_doubt : Source → Drafted → ℕ → ℕ → List ℕ → ℕ → Option Fault
+early_doubt s d from to name k =
+    if is_doubted d.early || may_come s d name k || d.loose || may_lack (find_entry 0 d.number [] (entries_here s d)) then None
     else Some (expected s d from to)
 
 -- a line of which the form has no field
@@ -199,7 +207,7 @@ named_field s d name = if is_nameless name then None else next_entry d.number na
 
 -- what is in doubt about a line of this field
 abbrev pub line_doubt : Source → Drafted → ℕ → ℕ → List ℕ → Option (ℕ × Entry) → Option Fault
-line_doubt s d from to name (Some found) = early_doubt s d from to found.0
+line_doubt s d from to name (Some found) = early_doubt s d from to name found.0
 line_doubt s d from to name None = name_doubt s d from to name
 
 -- a line begins

@@ -1,5 +1,5 @@
 -- The fields that a form names.
-use Rattle.std.specs.Prelude.{◌≡◌, ℕ, ◌+◌, ◌^◌, ◌==◌, nat_le, nat_lt, ◌&&◌, ◌||◌, Bool, false, if◌then◌else◌}
+use Rattle.std.specs.Prelude.{◌≡◌, ℕ, ◌+◌, ◌^◌, ◌==◌, nat_le, nat_lt, ◌&&◌, ◌||◌, Bool, true, false, if◌then◌else◌}
 use Rattle.std.specs.Prelude.{List, [], ◌∷◌, ◌++◌, length, codes, Option, Some, None}
 use Rattle.std.specs.List.{flat_map, slice_range}
 use Rattle.acpi_base.specs.Fields.{row_name, row_width}
@@ -141,6 +141,29 @@ or_else None other = other
 -- the next field of a line's name, from this one on, and then from the first on
 abbrev pub next_entry : ℕ → List ℕ → List Entry → Option (ℕ × Entry)
 next_entry least line entries = or_else (find_entry 0 least line entries) (find_entry 0 0 line entries)
+
+-- ---- fields that come once
+
+-- whether the lines of a part can come again
+abbrev pub repeats : Part → Bool
+repeats (parts.Entries name count rows) = true
+repeats (parts.Numbers name width count) = true
+repeats (parts.Matrix name width rows columns) = true
+repeats part = false
+
+-- whether the field that was found has this number
+abbrev pub has_number : Option (ℕ × Entry) → ℕ → Bool → Bool
+has_number (Some found) number other = found.0 == number
+has_number None number other = other
+
+-- Whether a line is that of the field with this number, and the field is before the first list of these parts. The first field of
+-- the parts has the number k.
+abbrev pub is_once : ℕ → ℕ → List ℕ → List Part → Bool
+is_once k number line [] = false
+is_once k number line (part ∷ others) =
+    if repeats part then false
+    else has_number (find_entry k number line (part_entries part)) number
+    (is_once (number_after k (part_entries part)) number line others)
 
 -- ---- a field anywhere in a form
 

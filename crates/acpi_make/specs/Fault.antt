@@ -104,6 +104,7 @@ words wanted.AnotherNumber = codes "another number"
 words wanted.Whole = codes "all fields, since the length is left out"
 words wanted.OneTable = codes "the end of the text, since a text is one table"
 words wanted.Table = codes "a table, whose fields stand in lines after white space"
+words wanted.Indented = codes "white space before a field"
 
 abbrev pub next_text : List ℕ → ℕ → List ℕ
 next_text name width =

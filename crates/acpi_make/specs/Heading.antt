@@ -10,6 +10,11 @@ use Rattle.acpi_make.specs.Text.{is_white, after, digits_front, decimal_of, afte
 use Rattle.acpi_make.specs.declared.item.Cell.{Cell}
 use Rattle.acpi_make.specs.declared.item.Cell.TheVariants.{Byte, Left}
 
+-- whether a heading is the line of a field, without white space before it: it has a colon
+abbrev pub is_field : List ℕ → Bool
+is_field [] = false
+is_field (c ∷ heading) = if c == 58 then true else is_field heading
+
 -- ---- labels
 
 -- how many characters stand before the first white space

@@ -15,6 +15,7 @@ pub mod Own
 pub mod Complete
 pub mod Compare
 pub mod Range
+pub mod Lack
 pub mod Short
 pub mod Right
 pub mod Notes

@@ -3,7 +3,7 @@
 ghost use Rattle.std.specs.Prelude.{◌≡◌, ◌-◌, [], ◌++◌, length, drop, replicate, OnOk, Ok};
 ghost use Rattle.acpi_base.specs.Bytes.{le};
 ghost use Rattle.acpi_make.specs.Draft.{earliest, doubt_of, form_here, misnamed_here, field_expected, is_doubted};
-ghost use Rattle.acpi_make.specs.Draft.{expected, may_lack, early_doubt, line_found, named_field, line_doubt};
+ghost use Rattle.acpi_make.specs.Draft.{expected, strange, may_lack, may_come, early_doubt, line_found, named_field, line_doubt};
 ghost use Rattle.acpi_make.specs.Draft.{here, parts_here, inner_here, is_strange, nothing_yet, size_doubt, closed, is_nameless};
 ghost use Rattle.acpi_make.specs.Draft.{unlike, name_doubt, opened, with_line, with_heading, or_fault, with_number, wanted_for};
 ghost use Rattle.acpi_make.specs.Draft.{is_reference, with_reference, with_value_of, taken, all_taken, drafted};
@@ -17,9 +17,9 @@ ghost use Rattle.acpi_make.specs.Source.{source_of};
 ghost use Rattle.acpi_make.specs.declared.item.Cell.TheVariants.{Left};
 
 use crate::another::misnamed;
-use crate::entry::{Field, entry_from, is_line_of, next_entry, next_number};
+use crate::entry::{Field, entry_from, is_line_of, is_once, next_entry, next_number};
 use crate::fault::{Fault, MakeError, Wanted};
-use crate::heading::structure_form;
+use crate::heading::{is_field, structure_form};
 use crate::item::{Cell, Item};
 use crate::text::{after_offset, are_white, part_at};
 use crate::value::value_of;
@@ -77,8 +77,8 @@ pub struct Draft {
     pub line_to: usize,
     /// The first line that isn't as the form has it. It is the fault of the text, if the text has one.
     pub doubt: Option<Fault>,
-    /// The first line of a field that comes too early. It is the fault of the text, if there is none before it, and all values
-    /// can be read.
+    /// The first line of a field that comes too early, or once more. It is the fault of the text, if there is none before it, and
+    /// all values can be read.
     pub early: Option<Fault>,
 }
 
@@ -134,14 +134,9 @@ fn size_doubt(field: Option<Field>, found: usize, from: usize, to: usize) -> Opt
     ensures { fault_in result ≡ size_doubt (field_in field) found from to }
 {
     match field {
-        Some(field) if field.size != 0 && found != field.size => Some(Fault {
-            from,
-            to,
-            wanted: Wanted::Width,
-            name: field.name,
-            width: field.size,
-            found,
-        }),
+        Some(field) if field.size != 0 && found != field.size => {
+            Some(Fault::wide(from, to, field.name, field.size, found))
+        }
         _ => None,
     }
 }
@@ -154,6 +149,18 @@ fn unlike(from: usize, to: usize, form: &'static str, wanted: Option<(usize, Fie
         Some((_, field)) => Fault::next(from, to, field.name, field.size),
         None => Fault::field_of(from, to, form),
     }
+}
+
+// Returns the fault of a heading that is no structure's name: it may be the line of a field.
+fn strange(from: usize, to: usize, text: &[u8]) -> Fault
+    ensures { fault_of result ≡ strange from to text.now }
+{
+    let wanted = if is_field(part_at(from, to, text)) {
+        Wanted::Indented
+    } else {
+        Wanted::Structure
+    };
+    Fault::new(from, to, wanted)
 }
 
 // Returns whether a field may be left out: its number of bytes can be any, or it is a name over fields.
@@ -310,7 +317,7 @@ impl Draft {
             return fault;
         }
         if self.is_strange(source) {
-            return Fault::new(self.from, self.to, Wanted::Structure);
+            return strange(self.from, self.to, source.text);
         }
         self.field_expected(source, from, to)
     }
@@ -328,11 +335,30 @@ impl Draft {
         Some(self.expected(source, from, to))
     }
 
-    // Returns the doubt about a line of a field that comes too early.
-    fn early_doubt(&self, source: &Source, from: usize, to: usize, number: usize) -> Option<Fault>
-        ensures { fault_in result ≡ early_doubt (source_of source.now) (drafted self.now) from to number }
+    // Returns whether a line of the field with this number may come here: it is the next one, or one of a list, which comes again.
+    fn may_come(&self, source: &Source, name: &[u8], number: usize) -> bool
+        ensures { result ≡ may_come (source_of source.now) (drafted self.now) name.now number }
     {
-        if is_doubted(self.early) || number <= self.number || self.loose {
+        if number < self.number {
+            let (parts, _) = self.parts_here(source);
+            !is_once(number, name, parts)
+        } else {
+            number == self.number
+        }
+    }
+
+    // Returns the doubt about a line of a field that comes too early, or once more.
+    fn early_doubt(
+        &self,
+        source: &Source,
+        from: usize,
+        to: usize,
+        name: &[u8],
+        number: usize,
+    ) -> Option<Fault>
+        ensures { fault_in result ≡ early_doubt (source_of source.now) (drafted self.now) from to name.now number }
+    {
+        if is_doubted(self.early) || self.may_come(source, name, number) || self.loose {
             return None;
         }
         let (parts, inner) = self.parts_here(source);
@@ -395,7 +421,7 @@ impl Draft {
         ensures { fault_in result ≡ line_doubt (source_of source.now) (drafted self.now) from to name.now (found_of found) }
     {
         match found {
-            Some((number, _)) => self.early_doubt(source, from, to, number),
+            Some((number, _)) => self.early_doubt(source, from, to, name, number),
             None => self.name_doubt(source, from, to, name),
         }
     }

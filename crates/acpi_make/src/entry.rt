@@ -9,7 +9,7 @@ ghost use Rattle.acpi_make.specs.Entry.{choice_entries, part_entries, parts_entr
 ghost use Rattle.acpi_make.specs.Entry.{inner_form_entries, inner_list_entries, inner_entries};
 ghost use Rattle.acpi_make.specs.Entry.{entry, open_entry, entry_of, is_line_of, is_of, next_number, find_entry};
 ghost use Rattle.acpi_make.specs.Entry.{next_entry, IsSearch, found_of};
-ghost use Rattle.acpi_make.specs.Entry.{find_inside, find_anywhere};
+ghost use Rattle.acpi_make.specs.Entry.{repeats, is_once, find_inside, find_anywhere};
 ghost use Rattle.acpi_text.specs.Structure.{all_forms};
 
 use crate::text::{after, are_white};
@@ -262,6 +262,35 @@ fn search_parts(number: usize, least: usize, line: &[u8], parts: &[Part]) -> Sea
         }
     }
     Search::Missing(next)
+}
+
+// Returns whether the lines of a part can come again: a list has a line for each entry.
+fn repeats(part: &Part) -> bool
+    ensures { result ≡ repeats part.now }
+{
+    match *part {
+        Part::Entries(_, _, _) | Part::Numbers(_, _, _) | Part::Matrix(_, _, _, _) => true,
+        Part::Fields(_) | Part::Between(_, _, _) | Part::Group(_, _) => false,
+        Part::Bytes(_, _) | Part::Until(_, _) => false,
+        Part::Chosen(_, _) | Part::BySize(_, _, _) => false,
+    }
+}
+
+/// Returns whether a line is that of the field with this number, and the field is before the first list of its parts.
+pub fn is_once(number: usize, line: &[u8], parts: &[Part]) -> bool
+    ensures { result ≡ is_once 0 number line.now parts.now }
+{
+    let mut next = 0;
+    'parts: for part in parts {
+        if repeats(part) {
+            return false;
+        }
+        match search_part(next, number, line, part) {
+            Search::Found(at, _) => return at == number,
+            Search::Missing(after) => next = after,
+        }
+    }
+    false
 }
 
 // Searches the fields of a structure within another, under its name.

@@ -2,7 +2,7 @@
 
 ghost use Rattle.std.specs.Prelude.{◌≡◌, true, IfOk, Some, string_bytes};
 ghost use Rattle.acpi_text.specs.Label.{all_print};
-ghost use Rattle.acpi_make.specs.Fault.{fault, next, whole, another, field_of, fault_of, line_at, column_at, words};
+ghost use Rattle.acpi_make.specs.Fault.{fault, next, wide, whole, another, field_of, fault_of, line_at, column_at, words};
 ghost use Rattle.acpi_make.specs.Fault.{wanted_text, found_text, explained};
 ghost use Rattle.acpi_make.specs.Fault.{without_end, quoted, part_text, error_text};
 ghost use Rattle.acpi_make.specs.declared.fault.MakeError.TheVariants.{Memory};
@@ -63,6 +63,8 @@ pub enum Wanted {
     OneTable,
     /// A table: the text has no bytes.
     Table,
+    /// White space before a field, whose line would be a heading.
+    Indented,
 }
 
 /// What is wrong with a text, and where. A place is the number of characters from it to the text's end.
@@ -151,6 +153,7 @@ impl Wanted {
             Wanted::Whole => "all fields, since the length is left out",
             Wanted::OneTable => "the end of the text, since a text is one table",
             Wanted::Table => "a table, whose fields stand in lines after white space",
+            Wanted::Indented => "white space before a field",
         }
     }
 }
@@ -195,6 +198,20 @@ impl Fault {
             name,
             width: 0,
             found: 0,
+        }
+    }
+
+    /// A field that has another number of bytes in the text.
+    pub fn wide(from: usize, to: usize, name: &'static str, width: usize, found: usize) -> Fault
+        ensures { fault_of result ≡ wide from to name.now width found }
+    {
+        Fault {
+            from,
+            to,
+            wanted: Wanted::Width,
+            name,
+            width,
+            found,
         }
     }
 

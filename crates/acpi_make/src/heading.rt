@@ -2,7 +2,7 @@
 
 ghost use Rattle.std.specs.Prelude.{◌≡◌, ◌≤◌, nat_le, length, MatchOption, None, Some};
 ghost use Rattle.acpi_base.specs.Walk.{place_width};
-ghost use Rattle.acpi_make.specs.Heading.{word_front, label_of, unlabelled, described, find_named, numbered, by_heading};
+ghost use Rattle.acpi_make.specs.Heading.{is_field, word_front, label_of, unlabelled, described, find_named, numbered, by_heading};
 ghost use Rattle.acpi_make.specs.Heading.{known_front, is_known, is_lowest, has_number, by_bytes, structure_form};
 ghost use Rattle.acpi_text.specs.Structure.{all_forms};
 
@@ -12,6 +12,18 @@ use crate::text::{after, after_offset, decimal_of, digits_front, is_white};
 use acpi_base::walk::Place;
 use acpi_text::form::{StructureForm, TableForm};
 use acpi_text::piece::find_form;
+
+/// Returns whether a heading is the line of a field, without white space before it: it has a colon.
+pub fn is_field(heading: &[u8]) -> bool
+    ensures { result ≡ is_field heading.now }
+{
+    'characters: for character in heading {
+        if *character == b':' {
+            return true;
+        }
+    }
+    false
+}
 
 // Returns how many characters stand before the first white space.
 fn word_front(text: &[u8]) -> usize

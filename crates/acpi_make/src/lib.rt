@@ -14,6 +14,7 @@ pub mod file_kind;
 pub mod heading;
 mod inner;
 pub mod item;
+pub mod lack;
 pub mod laws;
 pub mod make;
 pub mod notes;

@@ -1,11 +1,10 @@
 //! Structures that lack fields, and whose length the text leaves out.
 
-ghost use Rattle.std.specs.Prelude.{◌≡◌, drop};
-ghost use Rattle.acpi_base.specs.Walk.{place_offset, place_width};
+ghost use Rattle.std.specs.Prelude.{◌≡◌};
 ghost use Rattle.acpi_make.specs.Draft.{drafted, fault_in};
-ghost use Rattle.acpi_make.specs.Short.{room, part_room, has_fields, any_left, place_of_size, size_place, inner_place};
+ghost use Rattle.acpi_make.specs.Short.{any_left, place_of_size, size_place, inner_place, leaves_out};
 ghost use Rattle.acpi_make.specs.Short.{short_structure, short_titled, short_inners, short_within, short_of_form, short_in};
-ghost use Rattle.acpi_make.specs.Short.{first_heading, short_table, short};
+ghost use Rattle.acpi_make.specs.Short.{short_table, short};
 ghost use Rattle.acpi_make.specs.Source.{source_of};
 
 use crate::complete::length_own;
@@ -15,72 +14,12 @@ use crate::file_kind::FileKind;
 use crate::heading::structure_form;
 use crate::inner::{next_titled, titled};
 use crate::item::Cell;
+use crate::lack::{Lines, first_heading, lists_of, short_of};
 use crate::own::next_start;
 use crate::text::{after_offset, part_at};
-use acpi_base::row::Row;
 use acpi_base::slice::from_offset;
 use acpi_base::walk::{Place, Sizes, Walk};
-use acpi_text::form::{Inner, InnerForm, InnerList, InnerSize, Part, StructureForm};
-use acpi_text::part::between;
-
-/// Whether bytes have all of some fields.
-#[derive(Clone, Copy)]
-pub enum Fit {
-    /// They have, and this many bytes are left.
-    Leaves(usize),
-    /// They lack some.
-    Lacks,
-    /// That depends on other fields.
-    Depends,
-}
-
-// Returns how many bytes are left after the fields of rows, if there are as many.
-fn room(size: usize, rows: &[Row]) -> Fit
-    ensures { result ≡ room size rows.now }
-{
-    let mut left = size;
-    'rows: for row in rows {
-        let width = row.width();
-        if width > left {
-            return Fit::Lacks;
-        }
-        left -= width;
-    }
-    Fit::Leaves(left)
-}
-
-// Returns how many bytes are left after the fields of a part.
-fn part_room(size: usize, part: &Part) -> Fit
-    ensures { result ≡ part_room size part.now }
-{
-    match *part {
-        Part::Fields(rows) => room(size, rows),
-        Part::Between(rows, from, to) => room(size, between(rows, from, to)),
-        Part::Group(_, rows) => room(size, rows),
-        Part::Entries(_, _, _)
-        | Part::Numbers(_, _, _)
-        | Part::Matrix(_, _, _, _)
-        | Part::Bytes(_, _)
-        | Part::Until(_, _)
-        | Part::Chosen(_, _)
-        | Part::BySize(_, _, _) => Fit::Depends,
-    }
-}
-
-// Returns whether bytes have all fields at the front of parts: those before the first part whose size depends on other fields.
-fn has_fields(size: usize, parts: &[Part]) -> bool
-    ensures { result ≡ has_fields size parts.now }
-{
-    let mut left = size;
-    'parts: for part in parts {
-        match part_room(left, part) {
-            Fit::Leaves(rest) => left = rest,
-            Fit::Lacks => return false,
-            Fit::Depends => return true,
-        }
-    }
-    true
-}
+use acpi_text::form::{Inner, InnerForm, InnerList, InnerSize, StructureForm};
 
 // Returns whether one of the first bytes isn't known.
 fn any_left(width: usize, cells: &[Cell]) -> bool
@@ -133,47 +72,63 @@ fn inner_place(size: InnerSize) -> Place
 
 // Returns whether the text leaves out a byte of the field at a place of a structure.
 fn leaves_out(place: Place, at: usize, cells: &[Cell]) -> bool
-    ensures { result ≡ any_left (place_width place) (drop (place_offset place) (drop at cells.now)) }
+    ensures { result ≡ leaves_out place at cells.now }
 {
     let (offset, end) = (place.offset(), place.end());
     any_left(end - offset, from_offset(offset, from_offset(at, cells)))
 }
 
-// Returns the fault of a structure of this form and size, if it lacks fields.
+// Returns the fault of a structure of this form and size, if it lacks fields. The marks are those after its heading.
 fn short_structure(
+    text: &[u8],
     place: Place,
     cells: &[Cell],
+    marks: &[Mark],
     at: usize,
-    size: usize,
     range: (usize, usize),
     form: Option<StructureForm>,
 ) -> Option<Fault>
-    ensures { fault_in result ≡ short_structure place cells.now at size range.0 range.1 form }
+    ensures { fault_in result ≡ short_structure text.now place cells.now marks.now at range.0 range.1 form }
 {
     match form {
-        Some(form) if leaves_out(place, at, cells) && !has_fields(size, form.parts) => {
-            let (from, to) = range;
-            Some(Fault::whole(from, to, form.name, size))
+        Some(form) if leaves_out(place, at, cells) => {
+            let lines = Lines {
+                text,
+                lists: lists_of(form.inner),
+                marks,
+                parts: form.parts,
+                total: cells.len(),
+            };
+            let size = next_start(marks, cells.len()).saturating_sub(at);
+            short_of(&lines, range, size, form.name)
         }
         _ => None,
     }
 }
 
-// Returns the fault of a structure within another, of this form and size, if it lacks fields.
+// Returns the fault of a structure within another, of this form, if it lacks fields. The marks are those after its name.
 fn short_titled(
+    text: &[u8],
+    lists: &[InnerList],
     cells: &[Cell],
+    marks: &[Mark],
     at: usize,
-    size: usize,
     range: (usize, usize),
     form: Option<InnerForm>,
 ) -> Option<Fault>
-    ensures { fault_in result ≡ short_titled cells.now at size range.0 range.1 form }
+    ensures { fault_in result ≡ short_titled text.now lists.now cells.now marks.now at range.0 range.1 form }
 {
     match form {
-        Some(form)
-            if leaves_out(inner_place(form.size), at, cells) && !has_fields(size, form.parts) => {
-            let (from, to) = range;
-            Some(Fault::whole(from, to, form.name, size))
+        Some(form) if leaves_out(inner_place(form.size), at, cells) => {
+            let lines = Lines {
+                text,
+                lists,
+                marks,
+                parts: form.parts,
+                total: cells.len(),
+            };
+            let size = next_titled(text, lists, marks, cells.len()).saturating_sub(at);
+            short_of(&lines, range, size, form.name)
         }
         _ => None,
     }
@@ -188,9 +143,8 @@ fn short_inners(text: &[u8], lists: &[InnerList], cells: &[Cell], marks: &[Mark]
             Mark::Structure { .. } => return None,
             Mark::Line { at, from, to } => {
                 let form = titled(after_offset(part_at(from, to, text)), lists);
-                let next = next_titled(text, lists, &marks[i + 1..], cells.len());
-                let size = next.saturating_sub(at);
-                if let Some(fault) = short_titled(cells, at, size, (from, to), form) {
+                let next = &marks[i + 1..];
+                if let Some(fault) = short_titled(text, lists, cells, next, at, (from, to), form) {
                     return Some(fault);
                 }
             }
@@ -204,10 +158,7 @@ fn short_inners(text: &[u8], lists: &[InnerList], cells: &[Cell], marks: &[Mark]
 fn short_within(text: &[u8], inner: &Inner, cells: &[Cell], marks: &[Mark]) -> Option<Fault>
     ensures { fault_in result ≡ short_within text.now inner.now cells.now marks.now }
 {
-    match *inner {
-        Inner::Nothing => None,
-        Inner::Lists(_, lists) => short_inners(text, lists, cells, marks),
-    }
+    short_inners(text, lists_of(inner), cells, marks)
 }
 
 // Returns the fault of those within a structure of a form.
@@ -231,31 +182,19 @@ fn short_in(source: &Source, place: Place, cells: &[Cell], marks: &[Mark]) -> Op
 {
     'marks: for i in 0..marks.len() {
         if let Mark::Structure { at, from, to } = marks[i] {
-            let size = next_start(&marks[i + 1..], cells.len()).saturating_sub(at);
-            let heading = part_at(from, to, source.text);
+            let (text, next) = (source.text, &marks[i + 1..]);
+            let heading = part_at(from, to, text);
             let bytes = from_offset(at, cells);
             let form = structure_form(source.kind, &source.form, heading, bytes);
-            if let Some(fault) = short_structure(place, cells, at, size, (from, to), form) {
+            if let Some(fault) = short_structure(text, place, cells, next, at, (from, to), form) {
                 return Some(fault);
             }
-            if let Some(fault) = short_of_form(source.text, form, cells, &marks[i + 1..]) {
+            if let Some(fault) = short_of_form(text, form, cells, next) {
                 return Some(fault);
             }
         }
     }
     None
-}
-
-// Returns the range of the first structure's heading, or of nothing.
-fn first_heading(marks: &[Mark]) -> (usize, usize)
-    ensures { result ≡ first_heading marks.now }
-{
-    'marks: for mark in marks {
-        if let Mark::Structure { from, to, .. } = *mark {
-            return (from, to);
-        }
-    }
-    (0, 0)
 }
 
 // Returns the fault of a table that lacks fields before its structures. It is at the first structure, or at the end of the text.
@@ -264,14 +203,20 @@ fn short_table(
     source: &Source,
     cells: &[Cell],
     marks: &[Mark],
-    first: usize,
 ) -> Option<Fault>
-    ensures { fault_in result ≡ short_table file_kind (source_of source.now) cells.now marks.now first }
+    ensures { fault_in result ≡ short_table file_kind (source_of source.now) cells.now marks.now }
 {
     let offset = length_own(file_kind, cells.len()).offset;
-    if any_left(4, from_offset(offset, cells)) && !has_fields(first, source.form.parts) {
-        let (from, to) = first_heading(marks);
-        Some(Fault::whole(from, to, source.form.name, first))
+    if any_left(4, from_offset(offset, cells)) {
+        let lines = Lines {
+            text: source.text,
+            lists: lists_of(source.form.inner),
+            marks,
+            parts: source.form.parts,
+            total: cells.len(),
+        };
+        let size = next_start(marks, cells.len());
+        short_of(&lines, first_heading(marks), size, source.form.name)
     } else {
         None
     }
@@ -288,9 +233,8 @@ pub fn short(
     ensures { fault_in result ≡ short file_kind walk (source_of source.now) (drafted draft.now) }
 {
     let (cells, marks) = (&draft.cells, &draft.marks);
-    let first = next_start(marks, cells.len());
     first_of(
-        short_table(file_kind, source, cells, marks, first),
+        short_table(file_kind, source, cells, marks),
         first_of(
             short_within(source.text, source.form.inner, cells, marks),
             short_in(source, size_place(walk), cells, marks),

@@ -1,0 +1,183 @@
+-- What a table or a structure lacks, by the lines that a text has for it.
+use Rattle.std.specs.Prelude.{ℕ, zero, suc, ◌+◌, ◌-◌, ◌*◌, ◌==◌, nat_le, not, ◌&&◌, Bool, true, false, if◌then◌else◌}
+use Rattle.std.specs.Prelude.{List, [], ◌∷◌, Option, Some, None}
+use Rattle.std.specs.List.{slice_range}
+use Rattle.acpi_base.specs.Fields.{row_width}
+use Rattle.acpi_base.specs.Walk.{place_offset}
+use Rattle.acpi_base.specs.declared.row.Row.{Row}
+use Rattle.acpi_base.specs.declared.row.Row.TheVariants as rows
+use Rattle.acpi_base.specs.declared.walk.Place.{Place}
+use Rattle.acpi_text.specs.declared.form.Count.{Count}
+use Rattle.acpi_text.specs.declared.form.Count.TheVariants.{Field}
+use Rattle.acpi_text.specs.declared.form.Inner.{Inner}
+use Rattle.acpi_text.specs.declared.form.Inner.TheVariants.{Nothing, Lists}
+use Rattle.acpi_text.specs.declared.form.InnerForm.{InnerForm}
+use Rattle.acpi_text.specs.declared.form.InnerList.{InnerList}
+use Rattle.acpi_text.specs.declared.form.Part.{Part}
+use Rattle.acpi_text.specs.declared.form.Part.TheVariants.{Fields, Between, Group, Entries, Numbers, Matrix}
+use Rattle.acpi_make.specs.Draft.{first_of}
+use Rattle.acpi_make.specs.Entry.{is_line_of}
+use Rattle.acpi_make.specs.Fault.{Fault, fault, whole, wide}
+use Rattle.acpi_make.specs.Heading.{is_field}
+use Rattle.acpi_make.specs.Inner.{titled}
+use Rattle.acpi_make.specs.Own.{next_line}
+use Rattle.acpi_make.specs.Text.{part_at, after_offset}
+use Rattle.acpi_make.specs.declared.draft.Mark.{Mark}
+use Rattle.acpi_make.specs.declared.draft.Mark.TheVariants.{Structure, Line, Reference}
+use Rattle.acpi_make.specs.declared.fault.Wanted.TheVariants.{Indented}
+use Rattle.acpi_make.specs.declared.lack.Fit.{Fit}
+use Rattle.acpi_make.specs.declared.lack.Fit.TheVariants.{Leaves, Lacks, Depends}
+use Rattle.acpi_make.specs.declared.lack.Lines as declared
+
+-- The lines of a table or a structure: the text, the structures within it, the marks from the first of its lines on, the parts of
+-- its form, and the number of all bytes of the table.
+pub record Lines : Type 0 where
+  pub text : List ℕ
+  pub lists : List InnerList
+  pub marks : List Mark
+  pub parts : List Part
+  pub total : ℕ
+
+abbrev pub lines_in : declared.Lines → Lines
+lines_in l = record {
+  text = l.text.now;
+  lists = l.lists.now;
+  marks = l.marks.now;
+  parts = l.parts.now;
+  total = l.total;
+}
+
+abbrev pub lists_of : Inner → List InnerList
+lists_of Nothing = []
+lists_of (Lists start lists) = lists.now
+
+-- ---- the lines of lists
+
+-- whether a line is the name of a structure within another
+abbrev pub is_titled : Option InnerForm → Bool
+is_titled (Some form) = true
+is_titled None = false
+
+-- how many lines have a name, up to the next structure, or the next structure within
+abbrev pub lines_within : List ℕ → List InnerList → List ℕ → List Mark → ℕ
+lines_within text lists name [] = 0
+lines_within text lists name (Structure at from to ∷ marks) = 0
+lines_within text lists name (Line at from to ∷ marks) =
+    if is_titled (titled (after_offset (part_at from to text)) lists) then 0
+    else (if is_line_of name (after_offset (part_at from to text)) then 1 else 0) + lines_within text lists name marks
+lines_within text lists name (Reference at w from to ∷ marks) = lines_within text lists name marks
+
+abbrev pub lines_of : Lines → List ℕ → ℕ
+lines_of l name = lines_within l.text l.lists name l.marks
+
+-- how many lines of a name there are, if one place is another
+abbrev pub lines_at : Lines → List ℕ → Place → Place → Option ℕ
+lines_at l name one other = if place_offset one == place_offset other then Some (lines_of l name) else None
+
+-- how many lines there are of a part, if the field at this place has their number
+abbrev pub lines_counted : Lines → Place → Part → Option ℕ
+lines_counted l place (Entries name (Field counted) rows) = lines_at l name.now counted place
+lines_counted l place (Numbers name width (Field counted)) = lines_at l name.now counted place
+lines_counted l place (Matrix name width counted columns) = lines_at l name.now counted place
+lines_counted l place part = None
+
+abbrev pub or_number : Option ℕ → ℕ → ℕ
+or_number (Some n) other = n
+or_number None other = other
+
+-- how many lines the text has of what the field at a place counts
+abbrev pub counted_at : Lines → Place → List Part → ℕ
+counted_at l place [] = 0
+counted_at l place (part ∷ parts) = or_number (lines_counted l place part) (counted_at l place parts)
+
+-- ---- room for fields
+
+abbrev pub fit_then : Fit → (ℕ → Fit) → Fit
+fit_then (Leaves n) others = others n
+fit_then Lacks others = Lacks
+fit_then Depends others = Depends
+
+-- how many of n bytes are left after the fields of these rows, if there are as many
+abbrev pub room : ℕ → List Row → Fit
+room n [] = Leaves n
+room n (row ∷ rows) = if nat_le (row_width row) n then room (n - row_width row) rows else Lacks
+
+-- those after k entries
+abbrev pub entries_room : ℕ → ℕ → List Row → Fit
+entries_room n zero rows = Leaves n
+entries_room n (suc k) rows = fit_then (room n rows) (λ m. entries_room m k rows)
+
+-- those after k rows of a matrix
+abbrev pub matrix_room : ℕ → ℕ → ℕ → List Row → Fit
+matrix_room n zero columns rows = Leaves n
+matrix_room n (suc k) columns rows = fit_then (entries_room n columns rows) (λ m. matrix_room m k columns rows)
+
+-- Those after a part, whose size may depend on other fields. A list has as many entries as the text has lines of its name, and a
+-- matrix as many rows and columns as the text has lines of what counts them.
+abbrev pub part_room : Lines → ℕ → Part → Fit
+part_room l n (Fields rows) = room n rows.now
+part_room l n (Between rows from to) = room n (slice_range rows.now from to)
+part_room l n (Group name rows) = room n rows.now
+part_room l n (Entries name count rows) = entries_room n (lines_of l name.now) rows.now
+part_room l n (Numbers name width count) = entries_room n (lines_of l name.now) (rows.Number name width ∷ [])
+part_room l n (Matrix name width height columns) =
+    matrix_room n (counted_at l height l.parts) (counted_at l columns l.parts) (rows.Number name width ∷ [])
+part_room l n part = Depends
+
+abbrev pub room_then : Fit → (ℕ → Bool) → Bool
+room_then (Leaves n) others = others n
+room_then Lacks others = false
+room_then Depends others = true
+
+-- Whether n bytes have all fields at the front of these parts: those before the first part whose size depends on other fields.
+abbrev pub has_fields : Lines → ℕ → List Part → Bool
+has_fields l n [] = true
+has_fields l n (part ∷ parts) = room_then (part_room l n part) (λ m. has_fields l m parts)
+
+-- ---- rows of a matrix
+
+-- the first row that hasn't this many bytes
+abbrev pub uneven_row : Lines → List ℕ → ℕ → List Mark → Option Fault
+uneven_row l name size [] = None
+uneven_row l name size (Structure at from to ∷ marks) = None
+uneven_row l name size (Line at from to ∷ marks) =
+    if is_titled (titled (after_offset (part_at from to l.text)) l.lists) then None
+    else (if is_line_of name (after_offset (part_at from to l.text)) && not (next_line marks l.total - at == size)
+    then Some (wide from to name size (next_line marks l.total - at))
+    else uneven_row l name size marks)
+uneven_row l name size (Reference at w from to ∷ marks) = uneven_row l name size marks
+
+-- the size of a row, or the number of all bytes if that is less: no row has so many
+abbrev pub row_size : ℕ → ℕ → ℕ
+row_size size total = if nat_le size total then size else total
+
+abbrev pub uneven_part : Lines → Part → Option Fault
+uneven_part l (Matrix name width height columns) =
+    uneven_row l name.now (row_size (width * counted_at l columns l.parts) l.total) l.marks
+uneven_part l part = None
+
+-- the first row that hasn't a number for each column
+abbrev pub uneven : Lines → List Part → Option Fault
+uneven l [] = None
+uneven l (part ∷ parts) = first_of (uneven_part l part) (uneven l parts)
+
+-- ---- what is lacking
+
+-- the range of the first structure's heading, or of nothing
+abbrev pub first_heading : List Mark → ℕ × ℕ
+first_heading [] = (0, 0)
+first_heading (Structure at from to ∷ marks) = (from, to)
+first_heading (Line at from to ∷ marks) = first_heading marks
+first_heading (Reference at w from to ∷ marks) = first_heading marks
+
+-- What lacks fields, or the field that comes next, if it has no white space before it.
+abbrev pub lacking : Lines → ℕ → ℕ → ℕ → List ℕ → Fault
+lacking l from to size name =
+    if is_field (part_at (first_heading l.marks).0 (first_heading l.marks).1 l.text)
+    then fault (first_heading l.marks).0 (first_heading l.marks).1 Indented
+    else whole from to name size
+
+-- what a table or a structure of this size lacks
+abbrev pub short_of : Lines → ℕ → ℕ → ℕ → List ℕ → Option Fault
+short_of l from to size name =
+    if has_fields l size l.parts then uneven l l.parts else Some (lacking l from to size name)

@@ -1,0 +1,313 @@
+//! What a table or a structure lacks, by the lines that a text has for it.
+
+ghost use Rattle.std.specs.Prelude.{◌≡◌, ◌≤◌, ◌*◌, length};
+ghost use Rattle.acpi_make.specs.Draft.{fault_in};
+ghost use Rattle.acpi_make.specs.Fault.{fault_of};
+ghost use Rattle.acpi_make.specs.Inner.{titled};
+ghost use Rattle.acpi_make.specs.Lack.{lines_in, lists_of, is_titled, lines_within, lines_of, lines_counted, counted_at};
+ghost use Rattle.acpi_make.specs.Lack.{room, entries_room, matrix_room, part_room, has_fields};
+ghost use Rattle.acpi_make.specs.Lack.{uneven_row, row_size, uneven_part, uneven, first_heading, lacking, short_of};
+
+use crate::draft::Mark;
+use crate::entry::is_line_of;
+use crate::fault::{Fault, Wanted};
+use crate::heading::is_field;
+use crate::inner::titled;
+use crate::own::next_line;
+use crate::text::{after_offset, part_at};
+use acpi_base::row::Row;
+use acpi_base::walk::Place;
+use acpi_text::form::{Count, Inner, InnerList, Part};
+use acpi_text::part::between;
+
+/// Whether bytes have all of some fields.
+#[derive(Clone, Copy)]
+pub enum Fit {
+    /// They have, and this many bytes are left.
+    Leaves(usize),
+    /// They lack some.
+    Lacks,
+    /// That depends on other fields.
+    Depends,
+}
+
+/// The lines of a table or a structure, up to the next structure.
+#[derive(Clone, Copy, Debug)]
+pub struct Lines<'a> {
+    pub text: &'a [u8],
+    /// The structures within it, which come after its own lines.
+    pub lists: &'a [InnerList],
+    /// The marks from the first of its lines on.
+    pub marks: &'a [Mark],
+    /// The parts of its form.
+    pub parts: &'a [Part],
+    /// The number of all bytes of the table.
+    pub total: usize,
+}
+
+// Returns how many bytes are left after the fields of rows, if there are as many.
+fn room(size: usize, rows: &[Row]) -> Fit
+    ensures { result ≡ room size rows.now }
+{
+    let mut left = size;
+    'rows: for row in rows {
+        let width = row.width();
+        if width > left {
+            return Fit::Lacks;
+        }
+        left -= width;
+    }
+    Fit::Leaves(left)
+}
+
+// Returns how many bytes are left after this many entries of a list.
+fn entries_room(size: usize, count: usize, rows: &[Row]) -> Fit
+    ensures { result ≡ entries_room size count rows.now }
+{
+    let mut left = size;
+    let mut more = count;
+    'entries: while more > 0 {
+        match room(left, rows) {
+            Fit::Leaves(rest) => left = rest,
+            Fit::Lacks => return Fit::Lacks,
+            Fit::Depends => return Fit::Depends,
+        }
+        more -= 1;
+    }
+    Fit::Leaves(left)
+}
+
+// Returns how many bytes are left after the rows of a matrix of numbers.
+fn matrix_room(size: usize, count: usize, columns: usize, rows: &[Row]) -> Fit
+    ensures { result ≡ matrix_room size count columns rows.now }
+{
+    let mut left = size;
+    let mut more = count;
+    'rows: while more > 0 {
+        match entries_room(left, columns, rows) {
+            Fit::Leaves(rest) => left = rest,
+            Fit::Lacks => return Fit::Lacks,
+            Fit::Depends => return Fit::Depends,
+        }
+        more -= 1;
+    }
+    Fit::Leaves(left)
+}
+
+/// Returns the lists of structures within another.
+pub fn lists_of(inner: &Inner) -> &'static [InnerList]
+    ensures { result.now ≡ lists_of inner.now }
+{
+    match *inner {
+        Inner::Nothing => &[],
+        Inner::Lists(_, lists) => lists,
+    }
+}
+
+// Returns whether a line is the name of a structure within another.
+fn is_titled(line: &[u8], lists: &[InnerList]) -> bool
+    ensures { result ≡ is_titled (titled line.now lists.now) }
+{
+    match titled(line, lists) {
+        Some(_) => true,
+        None => false,
+    }
+}
+
+// Returns how many lines before the next structure have a name.
+fn lines_within(text: &[u8], lists: &[InnerList], name: &str, marks: &[Mark]) -> usize
+    ensures is { result ≡ lines_within text.now lists.now name.now marks.now }
+    ensures within { result ≤ length marks.now }
+{
+    let mut count = 0;
+    'marks: for mark in marks {
+        match *mark {
+            Mark::Structure { .. } => return count,
+            Mark::Line { from, to, .. } => {
+                let line = after_offset(part_at(from, to, text));
+                if is_titled(line, lists) {
+                    return count;
+                }
+                if is_line_of(name.as_bytes(), line) {
+                    count += 1;
+                }
+            }
+            Mark::Reference { .. } => {}
+        }
+    }
+    count
+}
+
+// Returns how many lines there are of the list with this name.
+fn lines_of(lines: &Lines<'_>, name: &str) -> usize
+    ensures { result ≡ lines_of (lines_in lines.now) name.now }
+{
+    lines_within(lines.text, lines.lists, name, lines.marks)
+}
+
+// Returns how many lines there are of a part, if the field at this place has their number.
+fn lines_counted(lines: &Lines<'_>, place: Place, part: &Part) -> Option<usize>
+    ensures { result ≡ lines_counted (lines_in lines.now) place part.now }
+{
+    let (name, counted) = match *part {
+        Part::Entries(name, Count::Field(counted), _) => (name, counted),
+        Part::Numbers(name, _, Count::Field(counted)) => (name, counted),
+        Part::Matrix(name, _, counted, _) => (name, counted),
+        _ => return None,
+    };
+    if counted.offset() == place.offset() {
+        Some(lines_of(lines, name))
+    } else {
+        None
+    }
+}
+
+// Returns how many lines the text has of what the field at a place counts.
+fn counted_at(lines: &Lines<'_>, place: Place, parts: &[Part]) -> usize
+    ensures { result ≡ counted_at (lines_in lines.now) place parts.now }
+{
+    'parts: for part in parts {
+        if let Some(count) = lines_counted(lines, place, part) {
+            return count;
+        }
+    }
+    0
+}
+
+// Returns how many bytes are left after the fields of a part. A list has as many entries as the text has lines of its name, and a
+// matrix as many rows and columns as the text has lines of what counts them.
+fn part_room(lines: &Lines<'_>, size: usize, part: &Part) -> Fit
+    ensures { result ≡ part_room (lines_in lines.now) size part.now }
+{
+    match *part {
+        Part::Fields(rows) => room(size, rows),
+        Part::Between(rows, from, to) => room(size, between(rows, from, to)),
+        Part::Group(_, rows) => room(size, rows),
+        Part::Entries(name, _, rows) => entries_room(size, lines_of(lines, name), rows),
+        Part::Numbers(name, width, _) => {
+            let row = [Row::Number(name, width)];
+            entries_room(size, lines_of(lines, name), &row)
+        }
+        Part::Matrix(name, width, rows, columns) => {
+            let row = [Row::Number(name, width)];
+            let count = counted_at(lines, rows, lines.parts);
+            matrix_room(size, count, counted_at(lines, columns, lines.parts), &row)
+        }
+        Part::Bytes(_, _) | Part::Until(_, _) => Fit::Depends,
+        Part::Chosen(_, _) | Part::BySize(_, _, _) => Fit::Depends,
+    }
+}
+
+// Returns whether bytes have all fields at the front of parts: those before the first part whose size depends on other fields.
+fn has_fields(lines: &Lines<'_>, size: usize, parts: &[Part]) -> bool
+    ensures { result ≡ has_fields (lines_in lines.now) size parts.now }
+{
+    let mut left = size;
+    'parts: for part in parts {
+        match part_room(lines, left, part) {
+            Fit::Leaves(rest) => left = rest,
+            Fit::Lacks => return false,
+            Fit::Depends => return true,
+        }
+    }
+    true
+}
+
+/// Returns the range of the first structure's heading, or of nothing.
+pub fn first_heading(marks: &[Mark]) -> (usize, usize)
+    ensures { result ≡ first_heading marks.now }
+{
+    'marks: for mark in marks {
+        if let Mark::Structure { from, to, .. } = *mark {
+            return (from, to);
+        }
+    }
+    (0, 0)
+}
+
+// Returns the fault of the first row of a matrix that hasn't this many bytes.
+fn uneven_row(lines: &Lines<'_>, name: &'static str, size: usize, marks: &[Mark]) -> Option<Fault>
+    ensures { fault_in result ≡ uneven_row (lines_in lines.now) name.now size marks.now }
+{
+    'marks: for i in 0..marks.len() {
+        match marks[i] {
+            Mark::Structure { .. } => return None,
+            Mark::Line { at, from, to } => {
+                let line = after_offset(part_at(from, to, lines.text));
+                if is_titled(line, lines.lists) {
+                    return None;
+                }
+                let found = next_line(&marks[i + 1..], lines.total).saturating_sub(at);
+                if is_line_of(name.as_bytes(), line) && found != size {
+                    return Some(Fault::wide(from, to, name, size, found));
+                }
+            }
+            Mark::Reference { .. } => {}
+        }
+    }
+    None
+}
+
+// Returns the size of a row, or the number of all bytes if that is less: no row has so many.
+fn row_size(width: usize, columns: usize, total: usize) -> usize
+    ensures { result ≡ row_size (width * columns) total }
+{
+    match width.checked_mul(columns) {
+        Some(size) if size <= total => size,
+        _ => total,
+    }
+}
+
+// Returns the fault of the first row of a part that hasn't a number for each column.
+fn uneven_part(lines: &Lines<'_>, part: &Part) -> Option<Fault>
+    ensures { fault_in result ≡ uneven_part (lines_in lines.now) part.now }
+{
+    match *part {
+        Part::Matrix(name, width, _, columns) => {
+            let size = row_size(width, counted_at(lines, columns, lines.parts), lines.total);
+            uneven_row(lines, name, size, lines.marks)
+        }
+        _ => None,
+    }
+}
+
+// Returns the fault of the first row of a matrix that hasn't a number for each column.
+fn uneven(lines: &Lines<'_>, parts: &[Part]) -> Option<Fault>
+    ensures { fault_in result ≡ uneven (lines_in lines.now) parts.now }
+{
+    'parts: for part in parts {
+        if let Some(fault) = uneven_part(lines, part) {
+            return Some(fault);
+        }
+    }
+    None
+}
+
+// Returns the fault of what lacks fields. If a field without white space before it comes next, it is the cause.
+fn lacking(lines: &Lines<'_>, range: (usize, usize), size: usize, name: &'static str) -> Fault
+    ensures { fault_of result ≡ lacking (lines_in lines.now) range.0 range.1 size name.now }
+{
+    let (next, end) = first_heading(lines.marks);
+    if is_field(part_at(next, end, lines.text)) {
+        Fault::new(next, end, Wanted::Indented)
+    } else {
+        let (from, to) = range;
+        Fault::whole(from, to, name, size)
+    }
+}
+
+/// Returns the fault of a table or a structure of this size, if it lacks fields or numbers.
+pub fn short_of(
+    lines: &Lines<'_>,
+    range: (usize, usize),
+    size: usize,
+    name: &'static str,
+) -> Option<Fault>
+    ensures { fault_in result ≡ short_of (lines_in lines.now) range.0 range.1 size name.now }
+{
+    if has_fields(lines, size, lines.parts) {
+        uneven(lines, lines.parts)
+    } else {
+        Some(lacking(lines, range, size, name))
+    }
+}
