@@ -198,16 +198,16 @@ place_whole place at bytes =
     ap (λ cells. any_left (place_width place) (drop (place_offset place) cells)) (drop_known at bytes)
     ∙ none_out (place_width place) (place_offset place) (drop at bytes)
 
-structure_whole : (text : List ℕ) (place : Place) (bytes : List ℕ) (marks : List Mark) (at from to : ℕ) (form : Option StructureForm)
-    → short_structure text place (known_cells bytes) marks at from to form ≡ None
-structure_whole text place bytes marks at from to None = refl
-structure_whole text place bytes marks at from to (Some form) =
+structure_whole : (text : List ℕ) (place : Place) (bytes : List ℕ) (marks : List Mark) (at : ℕ) (form : Option StructureForm)
+    → short_structure text place (known_cells bytes) marks at form ≡ None
+structure_whole text place bytes marks at None = refl
+structure_whole text place bytes marks at (Some form) =
     unless_left (leaves_out place at (known_cells bytes)) _ (place_whole place at bytes)
 
-titled_whole : (text : List ℕ) (lists : List InnerList) (bytes : List ℕ) (marks : List Mark) (at from to : ℕ)
-    (form : Option InnerForm) → short_titled text lists (known_cells bytes) marks at from to form ≡ None
-titled_whole text lists bytes marks at from to None = refl
-titled_whole text lists bytes marks at from to (Some form) =
+titled_whole : (text : List ℕ) (lists : List InnerList) (bytes : List ℕ) (marks : List Mark) (at : ℕ) (form : Option InnerForm)
+    → short_titled text lists (known_cells bytes) marks at form ≡ None
+titled_whole text lists bytes marks at None = refl
+titled_whole text lists bytes marks at (Some form) =
     unless_left (leaves_out (inner_place form.size) at (known_cells bytes)) _ (place_whole (inner_place form.size) at bytes)
 
 inners_whole : (text : List ℕ) (lists : List InnerList) (bytes : List ℕ) (marks : List Mark)
@@ -216,7 +216,7 @@ inners_whole text lists bytes [] = refl
 inners_whole text lists bytes (Structure at from to ∷ marks) = refl
 inners_whole text lists bytes (Line at from to ∷ marks) =
     ap (λ first. first_of first (short_inners text lists (known_cells bytes) marks))
-    (titled_whole text lists bytes marks at from to _)
+    (titled_whole text lists bytes marks at _)
     ∙ inners_whole text lists bytes marks
 inners_whole text lists bytes (Reference at w from to ∷ marks) = inners_whole text lists bytes marks
 
@@ -231,7 +231,7 @@ structures_whole s place bytes (Structure at from to ∷ marks) =
     let form = structure_form s.kind (all_forms s.form) (part_at from to s.text) (drop at (known_cells bytes)) in
     let within = short_of_form s.text form (known_cells bytes) marks in
     ap (λ first. first_of first (first_of within (short_in s place (known_cells bytes) marks)))
-    (structure_whole s.text place bytes marks at from to form)
+    (structure_whole s.text place bytes marks at form)
     ∙ ap (λ first. first_of first (short_in s place (known_cells bytes) marks)) (form_whole s.text form bytes marks)
     ∙ structures_whole s place bytes marks
 structures_whole s place bytes (Line at from to ∷ marks) = structures_whole s place bytes marks

@@ -42,10 +42,9 @@ abbrev pub wide : ℕ → ℕ → List ℕ → ℕ → ℕ → Fault
 wide from to name width found =
     record { from = from; to = to; wanted = wanted.Width; name = name; width = width; found = found }
 
--- a table or a structure that lacks fields, and whose length is left out
+-- a field that a table or a structure lacks, whose length is left out
 abbrev pub whole : ℕ → ℕ → List ℕ → ℕ → Fault
-whole from to name found =
-    record { from = from; to = to; wanted = wanted.Whole; name = name; width = 0; found = found }
+whole from to name width = record { from = from; to = to; wanted = wanted.Whole; name = name; width = width; found = 0 }
 
 -- a field in which another number has to stand
 abbrev pub another : ℕ → ℕ → List ℕ → ℕ → Fault
@@ -117,12 +116,17 @@ abbrev pub width_text : List ℕ → ℕ → List ℕ
 width_text name width =
     if width == 1 then codes "1 byte of " ++ name else decimal width ++ (codes " bytes of " ++ name)
 
+abbrev pub whole_text : List ℕ → ℕ → List ℕ
+whole_text name width =
+    if width == 1 then name ++ codes " (1 byte), since the length is left out"
+    else name ++ (codes " (" ++ (decimal width ++ codes " bytes), since the length is left out"))
+
 abbrev pub text_of_wanted : Wanted → List ℕ → ℕ → List ℕ
 text_of_wanted wanted.Next name width = next_text name width
 text_of_wanted wanted.Width name width = width_text name width
 text_of_wanted wanted.AnotherNumber name width = decimal width ++ (codes " in " ++ name)
 text_of_wanted wanted.FieldOf name width = codes "a field of " ++ name
-text_of_wanted wanted.Whole name width = codes "all fields of " ++ (name ++ codes ", since its length is left out")
+text_of_wanted wanted.Whole name width = whole_text name width
 text_of_wanted wanted name width = words wanted
 
 abbrev pub wanted_text : Fault → List ℕ
@@ -157,7 +161,6 @@ part_text from part =
 abbrev pub text_of_found : Wanted → ℕ → ℕ → List ℕ → List ℕ
 text_of_found wanted.Width from found part = decimal found
 text_of_found wanted.AnotherNumber from found part = codes "another number"
-text_of_found wanted.Whole from found part = decimal found ++ codes " bytes"
 text_of_found wanted from found part = part_text from part
 
 abbrev pub found_text : Fault → List ℕ → List ℕ

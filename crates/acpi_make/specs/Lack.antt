@@ -2,7 +2,7 @@
 use Rattle.std.specs.Prelude.{ℕ, zero, suc, ◌+◌, ◌-◌, ◌*◌, ◌==◌, nat_le, not, ◌&&◌, Bool, true, false, if◌then◌else◌}
 use Rattle.std.specs.Prelude.{List, [], ◌∷◌, Option, Some, None}
 use Rattle.std.specs.List.{slice_range}
-use Rattle.acpi_base.specs.Fields.{row_width}
+use Rattle.acpi_base.specs.Fields.{row_name, row_width}
 use Rattle.acpi_base.specs.Walk.{place_offset}
 use Rattle.acpi_base.specs.declared.row.Row.{Row}
 use Rattle.acpi_base.specs.declared.row.Row.TheVariants as rows
@@ -92,29 +92,44 @@ counted_at l place (part ∷ parts) = or_number (lines_counted l place part) (co
 
 -- ---- room for fields
 
-abbrev pub fit_then : Fit → (ℕ → Fit) → Fit
-fit_then (Leaves n) others = others n
-fit_then Lacks others = Lacks
-fit_then Depends others = Depends
+-- What a number of bytes is for some fields:
+-- - leaves: it has room for them, and this many bytes are left;
+-- - lacks: it lacks some, of which the first has this name and this width;
+-- - depends: the fields depend on others.
+pub data Room : Type 0 where
+  leaves : ℕ → Room
+  lacks : List ℕ → ℕ → Room
+  depends : Room
 
--- how many of n bytes are left after the fields of these rows, if there are as many
-abbrev pub room : ℕ → List Row → Fit
-room n [] = Leaves n
-room n (row ∷ rows) = if nat_le (row_width row) n then room (n - row_width row) rows else Lacks
+abbrev pub fit_of : Fit → Room
+fit_of (Leaves n) = leaves n
+fit_of (Lacks name width) = lacks name.now width
+fit_of Depends = depends
 
--- those after k entries
-abbrev pub entries_room : ℕ → ℕ → List Row → Fit
-entries_room n zero rows = Leaves n
-entries_room n (suc k) rows = fit_then (room n rows) (λ m. entries_room m k rows)
+abbrev pub room_then : Room → (ℕ → Room) → Room
+room_then (leaves n) others = others n
+room_then (lacks name width) others = lacks name width
+room_then depends others = depends
 
--- those after k rows of a matrix
-abbrev pub matrix_room : ℕ → ℕ → ℕ → List Row → Fit
-matrix_room n zero columns rows = Leaves n
-matrix_room n (suc k) columns rows = fit_then (entries_room n columns rows) (λ m. matrix_room m k columns rows)
+-- n bytes for the fields of these rows
+abbrev pub room : ℕ → List Row → Room
+room n [] = leaves n
+room n (row ∷ rows) =
+    if nat_le (row_width row) n then room (n - row_width row) rows else lacks (row_name row) (row_width row)
 
--- Those after a part, whose size may depend on other fields. A list has as many entries as the text has lines of its name, and a
+-- those for k entries
+abbrev pub entries_room : ℕ → ℕ → List Row → Room
+entries_room n zero rows = leaves n
+entries_room n (suc k) rows = room_then (room n rows) (λ m. entries_room m k rows)
+
+-- those for k rows of a matrix
+abbrev pub matrix_room : ℕ → ℕ → ℕ → List Row → Room
+matrix_room n zero columns rows = leaves n
+matrix_room n (suc k) columns rows = room_then (entries_room n columns rows) (λ m. matrix_room m k columns rows)
+
+-- Those for a part, whose size may depend on other fields. A list has as many entries as the text has lines of its name, and a
 -- matrix as many rows and columns as the text has lines of what counts them.
-abbrev pub part_room : Lines → ℕ → Part → Fit
+abbrev pub part_room : Lines → ℕ → Part → Room
 part_room l n (Fields rows) = room n rows.now
 part_room l n (Between rows from to) = room n (slice_range rows.now from to)
 part_room l n (Group name rows) = room n rows.now
@@ -122,17 +137,12 @@ part_room l n (Entries name count rows) = entries_room n (lines_of l name.now) r
 part_room l n (Numbers name width count) = entries_room n (lines_of l name.now) (rows.Number name width ∷ [])
 part_room l n (Matrix name width height columns) =
     matrix_room n (counted_at l height l.parts) (counted_at l columns l.parts) (rows.Number name width ∷ [])
-part_room l n part = Depends
+part_room l n part = depends
 
-abbrev pub room_then : Fit → (ℕ → Bool) → Bool
-room_then (Leaves n) others = others n
-room_then Lacks others = false
-room_then Depends others = true
-
--- Whether n bytes have all fields at the front of these parts: those before the first part whose size depends on other fields.
-abbrev pub has_fields : Lines → ℕ → List Part → Bool
-has_fields l n [] = true
-has_fields l n (part ∷ parts) = room_then (part_room l n part) (λ m. has_fields l m parts)
+-- The first field at the front of these parts that n bytes lack: before the first part whose size depends on other fields.
+abbrev pub first_lacking : Lines → ℕ → List Part → Room
+first_lacking l n [] = leaves n
+first_lacking l n (part ∷ parts) = room_then (part_room l n part) (λ m. first_lacking l m parts)
 
 -- ---- rows of a matrix
 
@@ -163,21 +173,26 @@ uneven l (part ∷ parts) = first_of (uneven_part l part) (uneven l parts)
 
 -- ---- what is lacking
 
--- the range of the first structure's heading, or of nothing
-abbrev pub first_heading : List Mark → ℕ × ℕ
-first_heading [] = (0, 0)
-first_heading (Structure at from to ∷ marks) = (from, to)
-first_heading (Line at from to ∷ marks) = first_heading marks
-first_heading (Reference at w from to ∷ marks) = first_heading marks
+-- the range of what comes after the lines: the next structure, or the next one within; empty at the end of the text
+abbrev pub next_heading : Lines → List Mark → ℕ × ℕ
+next_heading l [] = (0, 0)
+next_heading l (Structure at from to ∷ marks) = (from, to)
+next_heading l (Line at from to ∷ marks) =
+    if is_titled (titled (after_offset (part_at from to l.text)) l.lists) then (from, to) else next_heading l marks
+next_heading l (Reference at w from to ∷ marks) = next_heading l marks
 
--- What lacks fields, or the field that comes next, if it has no white space before it.
-abbrev pub lacking : Lines → ℕ → ℕ → ℕ → List ℕ → Fault
-lacking l from to size name =
-    if is_field (part_at (first_heading l.marks).0 (first_heading l.marks).1 l.text)
-    then fault (first_heading l.marks).0 (first_heading l.marks).1 Indented
-    else whole from to name size
+-- A field that isn't there, at what stands in its place. This may be a field without white space before it.
+abbrev pub lacking : Lines → List ℕ → ℕ → Fault
+lacking l name width =
+    if is_field (part_at (next_heading l l.marks).0 (next_heading l l.marks).1 l.text)
+    then fault (next_heading l l.marks).0 (next_heading l l.marks).1 Indented
+    else whole (next_heading l l.marks).0 (next_heading l l.marks).1 name width
 
--- what a table or a structure of this size lacks
-abbrev pub short_of : Lines → ℕ → ℕ → ℕ → List ℕ → Option Fault
-short_of l from to size name =
-    if has_fields l size l.parts then uneven l l.parts else Some (lacking l from to size name)
+abbrev pub lacking_by : Lines → Room → Option Fault
+lacking_by l (leaves n) = None
+lacking_by l (lacks name width) = Some (lacking l name width)
+lacking_by l depends = None
+
+-- what a table or a structure of this size lacks: numbers of a row, or a field
+abbrev pub short_of : Lines → ℕ → Option Fault
+short_of l size = first_of (uneven l l.parts) (lacking_by l (first_lacking l size l.parts))

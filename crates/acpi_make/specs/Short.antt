@@ -19,7 +19,7 @@ use Rattle.acpi_make.specs.Draft.{Drafted, first_of}
 use Rattle.acpi_make.specs.Fault.{Fault}
 use Rattle.acpi_make.specs.Heading.{structure_form}
 use Rattle.acpi_make.specs.Inner.{titled, next_titled}
-use Rattle.acpi_make.specs.Lack.{lists_of, first_heading, short_of}
+use Rattle.acpi_make.specs.Lack.{lists_of, short_of}
 use Rattle.acpi_make.specs.Own.{next_start}
 use Rattle.acpi_make.specs.Source.{Source}
 use Rattle.acpi_make.specs.Text.{part_at, after_offset}
@@ -60,10 +60,10 @@ leaves_out place at cells = any_left (place_width place) (drop (place_offset pla
 
 -- ---- what lacks fields
 
--- a structure of this form at an offset, with the range of its heading
-abbrev pub short_structure : List ℕ → Place → List Cell → List Mark → ℕ → ℕ → ℕ → Option StructureForm → Option Fault
-short_structure text place cells marks at from to None = None
-short_structure text place cells marks at from to (Some form) =
+-- a structure of this form at an offset; the marks are those after its heading
+abbrev pub short_structure : List ℕ → Place → List Cell → List Mark → ℕ → Option StructureForm → Option Fault
+short_structure text place cells marks at None = None
+short_structure text place cells marks at (Some form) =
     if leaves_out place at cells
     then short_of (record {
       text = text;
@@ -71,13 +71,13 @@ short_structure text place cells marks at from to (Some form) =
       marks = marks;
       parts = form.parts.now;
       total = length cells;
-    }) from to (next_start marks (length cells) - at) form.name.now
+    }) (next_start marks (length cells) - at)
     else None
 
--- a structure within another, of this form at an offset, with the range of its name
-abbrev pub short_titled : List ℕ → List InnerList → List Cell → List Mark → ℕ → ℕ → ℕ → Option InnerForm → Option Fault
-short_titled text lists cells marks at from to None = None
-short_titled text lists cells marks at from to (Some form) =
+-- a structure within another, of this form at an offset; the marks are those after its name
+abbrev pub short_titled : List ℕ → List InnerList → List Cell → List Mark → ℕ → Option InnerForm → Option Fault
+short_titled text lists cells marks at None = None
+short_titled text lists cells marks at (Some form) =
     if leaves_out (inner_place form.size) at cells
     then short_of (record {
       text = text;
@@ -85,7 +85,7 @@ short_titled text lists cells marks at from to (Some form) =
       marks = marks;
       parts = form.parts.now;
       total = length cells;
-    }) from to (next_titled text lists marks (length cells) - at) form.name.now
+    }) (next_titled text lists marks (length cells) - at)
     else None
 
 -- the first structure of these lists that lacks fields, up to the next structure
@@ -94,7 +94,7 @@ short_inners text lists cells [] = None
 short_inners text lists cells (Structure at from to ∷ marks) = None
 short_inners text lists cells (Line at from to ∷ marks) =
     first_of
-    (short_titled text lists cells marks at from to (titled (after_offset (part_at from to text)) lists))
+    (short_titled text lists cells marks at (titled (after_offset (part_at from to text)) lists))
     (short_inners text lists cells marks)
 short_inners text lists cells (Reference at w from to ∷ marks) = short_inners text lists cells marks
 
@@ -111,12 +111,12 @@ abbrev pub short_in : Source → Place → List Cell → List Mark → Option Fa
 short_in s place cells [] = None
 short_in s place cells (Structure at from to ∷ marks) =
     let form = structure_form s.kind (all_forms s.form) (part_at from to s.text) (drop at cells) in
-    first_of (short_structure s.text place cells marks at from to form)
+    first_of (short_structure s.text place cells marks at form)
     (first_of (short_of_form s.text form cells marks) (short_in s place cells marks))
 short_in s place cells (Line at from to ∷ marks) = short_in s place cells marks
 short_in s place cells (Reference at w from to ∷ marks) = short_in s place cells marks
 
--- the fields of a table before structures; the fault is at the first structure, or at the end of the text
+-- the fields of a table before structures
 abbrev pub short_table : FileKind → Source → List Cell → List Mark → Option Fault
 short_table file_kind s cells marks =
     if any_left 4 (drop (length_own file_kind (length cells)).offset cells)
@@ -126,7 +126,7 @@ short_table file_kind s cells marks =
       marks = marks;
       parts = s.form.parts.now;
       total = length cells;
-    }) (first_heading marks).0 (first_heading marks).1 (next_start marks (length cells)) s.form.name.now
+    }) (next_start marks (length cells))
     else None
 
 -- the table, a structure within it that isn't in another, or the first of its structures that lacks fields

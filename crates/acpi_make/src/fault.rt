@@ -57,7 +57,7 @@ pub enum Wanted {
     AnotherNumber,
     /// A field of a form.
     FieldOf,
-    /// All fields of a structure whose length is left out.
+    /// A field of a structure whose length is left out.
     Whole,
     /// The end of the text: a text is one table.
     OneTable,
@@ -229,17 +229,17 @@ impl Fault {
         }
     }
 
-    /// A table or a structure that lacks fields, and whose length is left out.
-    pub fn whole(from: usize, to: usize, name: &'static str, found: usize) -> Fault
-        ensures { fault_of result ≡ whole from to name.now found }
+    /// A field that a table or a structure lacks, whose length is left out.
+    pub fn whole(from: usize, to: usize, name: &'static str, width: usize) -> Fault
+        ensures { fault_of result ≡ whole from to name.now width }
     {
         Fault {
             from,
             to,
             wanted: Wanted::Whole,
             name,
-            width: 0,
-            found,
+            width,
+            found: 0,
         }
     }
 
@@ -257,8 +257,11 @@ impl Fault {
             Wanted::Width => format!(in alloc; "{width} bytes of {name}"),
             Wanted::AnotherNumber => format!(in alloc; "{width} in {name}"),
             Wanted::FieldOf => format!(in alloc; "a field of {name}"),
+            Wanted::Whole if width == 1 => format!(in alloc;
+                "{name} (1 byte), since the length is left out"
+            ),
             Wanted::Whole => format!(in alloc;
-                "all fields of {name}, since its length is left out"
+                "{name} ({width} bytes), since the length is left out"
             ),
             wanted => {
                 let words = wanted.text();
@@ -276,10 +279,6 @@ impl Fault {
             Wanted::Width => {
                 let found = self.found;
                 format!(in alloc; "{found}")
-            }
-            Wanted::Whole => {
-                let found = self.found;
-                format!(in alloc; "{found} bytes")
             }
             Wanted::AnotherNumber => format!(in alloc; "another number"),
             _ => part_text(alloc, self.from, part),

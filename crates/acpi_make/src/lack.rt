@@ -5,8 +5,8 @@ ghost use Rattle.acpi_make.specs.Draft.{fault_in};
 ghost use Rattle.acpi_make.specs.Fault.{fault_of};
 ghost use Rattle.acpi_make.specs.Inner.{titled};
 ghost use Rattle.acpi_make.specs.Lack.{lines_in, lists_of, is_titled, lines_within, lines_of, lines_counted, counted_at};
-ghost use Rattle.acpi_make.specs.Lack.{room, entries_room, matrix_room, part_room, has_fields};
-ghost use Rattle.acpi_make.specs.Lack.{uneven_row, row_size, uneven_part, uneven, first_heading, lacking, short_of};
+ghost use Rattle.acpi_make.specs.Lack.{fit_of, room, entries_room, matrix_room, part_room, first_lacking};
+ghost use Rattle.acpi_make.specs.Lack.{uneven_row, row_size, uneven_part, uneven, next_heading, lacking, short_of};
 
 use crate::draft::Mark;
 use crate::entry::is_line_of;
@@ -25,8 +25,8 @@ use acpi_text::part::between;
 pub enum Fit {
     /// They have, and this many bytes are left.
     Leaves(usize),
-    /// They lack some.
-    Lacks,
+    /// They lack some. This is the first of those: its name, and its width.
+    Lacks(&'static str, usize),
     /// That depends on other fields.
     Depends,
 }
@@ -47,13 +47,13 @@ pub struct Lines<'a> {
 
 // Returns how many bytes are left after the fields of rows, if there are as many.
 fn room(size: usize, rows: &[Row]) -> Fit
-    ensures { result ≡ room size rows.now }
+    ensures { fit_of result ≡ room size rows.now }
 {
     let mut left = size;
     'rows: for row in rows {
         let width = row.width();
         if width > left {
-            return Fit::Lacks;
+            return Fit::Lacks(row.name(), width);
         }
         left -= width;
     }
@@ -62,14 +62,14 @@ fn room(size: usize, rows: &[Row]) -> Fit
 
 // Returns how many bytes are left after this many entries of a list.
 fn entries_room(size: usize, count: usize, rows: &[Row]) -> Fit
-    ensures { result ≡ entries_room size count rows.now }
+    ensures { fit_of result ≡ entries_room size count rows.now }
 {
     let mut left = size;
     let mut more = count;
     'entries: while more > 0 {
         match room(left, rows) {
             Fit::Leaves(rest) => left = rest,
-            Fit::Lacks => return Fit::Lacks,
+            Fit::Lacks(name, width) => return Fit::Lacks(name, width),
             Fit::Depends => return Fit::Depends,
         }
         more -= 1;
@@ -79,14 +79,14 @@ fn entries_room(size: usize, count: usize, rows: &[Row]) -> Fit
 
 // Returns how many bytes are left after the rows of a matrix of numbers.
 fn matrix_room(size: usize, count: usize, columns: usize, rows: &[Row]) -> Fit
-    ensures { result ≡ matrix_room size count columns rows.now }
+    ensures { fit_of result ≡ matrix_room size count columns rows.now }
 {
     let mut left = size;
     let mut more = count;
     'rows: while more > 0 {
         match entries_room(left, columns, rows) {
             Fit::Leaves(rest) => left = rest,
-            Fit::Lacks => return Fit::Lacks,
+            Fit::Lacks(name, width) => return Fit::Lacks(name, width),
             Fit::Depends => return Fit::Depends,
         }
         more -= 1;
@@ -177,7 +177,7 @@ fn counted_at(lines: &Lines<'_>, place: Place, parts: &[Part]) -> usize
 // Returns how many bytes are left after the fields of a part. A list has as many entries as the text has lines of its name, and a
 // matrix as many rows and columns as the text has lines of what counts them.
 fn part_room(lines: &Lines<'_>, size: usize, part: &Part) -> Fit
-    ensures { result ≡ part_room (lines_in lines.now) size part.now }
+    ensures { fit_of result ≡ part_room (lines_in lines.now) size part.now }
 {
     match *part {
         Part::Fields(rows) => room(size, rows),
@@ -198,31 +198,19 @@ fn part_room(lines: &Lines<'_>, size: usize, part: &Part) -> Fit
     }
 }
 
-// Returns whether bytes have all fields at the front of parts: those before the first part whose size depends on other fields.
-fn has_fields(lines: &Lines<'_>, size: usize, parts: &[Part]) -> bool
-    ensures { result ≡ has_fields (lines_in lines.now) size parts.now }
+// Returns the first field at the front of parts that bytes lack: before the first part whose size depends on other fields.
+fn first_lacking(lines: &Lines<'_>, size: usize, parts: &[Part]) -> Fit
+    ensures { fit_of result ≡ first_lacking (lines_in lines.now) size parts.now }
 {
     let mut left = size;
     'parts: for part in parts {
         match part_room(lines, left, part) {
             Fit::Leaves(rest) => left = rest,
-            Fit::Lacks => return false,
-            Fit::Depends => return true,
+            Fit::Lacks(name, width) => return Fit::Lacks(name, width),
+            Fit::Depends => return Fit::Depends,
         }
     }
-    true
-}
-
-/// Returns the range of the first structure's heading, or of nothing.
-pub fn first_heading(marks: &[Mark]) -> (usize, usize)
-    ensures { result ≡ first_heading marks.now }
-{
-    'marks: for mark in marks {
-        if let Mark::Structure { from, to, .. } = *mark {
-            return (from, to);
-        }
-    }
-    (0, 0)
+    Fit::Leaves(left)
 }
 
 // Returns the fault of the first row of a matrix that hasn't this many bytes.
@@ -283,31 +271,45 @@ fn uneven(lines: &Lines<'_>, parts: &[Part]) -> Option<Fault>
     None
 }
 
-// Returns the fault of what lacks fields. If a field without white space before it comes next, it is the cause.
-fn lacking(lines: &Lines<'_>, range: (usize, usize), size: usize, name: &'static str) -> Fault
-    ensures { fault_of result ≡ lacking (lines_in lines.now) range.0 range.1 size name.now }
+// Returns the range of what comes after the lines: the next structure, or the next one within. It is empty at the end of the text.
+fn next_heading(lines: &Lines<'_>, marks: &[Mark]) -> (usize, usize)
+    ensures { result ≡ next_heading (lines_in lines.now) marks.now }
 {
-    let (next, end) = first_heading(lines.marks);
-    if is_field(part_at(next, end, lines.text)) {
-        Fault::new(next, end, Wanted::Indented)
+    'marks: for mark in marks {
+        match *mark {
+            Mark::Structure { from, to, .. } => return (from, to),
+            Mark::Line { from, to, .. } => {
+                if is_titled(after_offset(part_at(from, to, lines.text)), lines.lists) {
+                    return (from, to);
+                }
+            }
+            Mark::Reference { .. } => {}
+        }
+    }
+    (0, 0)
+}
+
+// Returns the fault of a field that isn't there, at what stands in its place. This may be a field without white space before it.
+fn lacking(lines: &Lines<'_>, name: &'static str, width: usize) -> Fault
+    ensures { fault_of result ≡ lacking (lines_in lines.now) name.now width }
+{
+    let (from, to) = next_heading(lines, lines.marks);
+    if is_field(part_at(from, to, lines.text)) {
+        Fault::new(from, to, Wanted::Indented)
     } else {
-        let (from, to) = range;
-        Fault::whole(from, to, name, size)
+        Fault::whole(from, to, name, width)
     }
 }
 
 /// Returns the fault of a table or a structure of this size, if it lacks fields or numbers.
-pub fn short_of(
-    lines: &Lines<'_>,
-    range: (usize, usize),
-    size: usize,
-    name: &'static str,
-) -> Option<Fault>
-    ensures { fault_in result ≡ short_of (lines_in lines.now) range.0 range.1 size name.now }
+pub fn short_of(lines: &Lines<'_>, size: usize) -> Option<Fault>
+    ensures { fault_in result ≡ short_of (lines_in lines.now) size }
 {
-    if has_fields(lines, size, lines.parts) {
-        uneven(lines, lines.parts)
-    } else {
-        Some(lacking(lines, range, size, name))
+    if let Some(fault) = uneven(lines, lines.parts) {
+        return Some(fault);
+    }
+    match first_lacking(lines, size, lines.parts) {
+        Fit::Lacks(name, width) => Some(lacking(lines, name, width)),
+        Fit::Leaves(_) | Fit::Depends => None,
     }
 }

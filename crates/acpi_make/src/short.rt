@@ -14,7 +14,7 @@ use crate::file_kind::FileKind;
 use crate::heading::structure_form;
 use crate::inner::{next_titled, titled};
 use crate::item::Cell;
-use crate::lack::{Lines, first_heading, lists_of, short_of};
+use crate::lack::{Lines, lists_of, short_of};
 use crate::own::next_start;
 use crate::text::{after_offset, part_at};
 use acpi_base::slice::from_offset;
@@ -85,10 +85,9 @@ fn short_structure(
     cells: &[Cell],
     marks: &[Mark],
     at: usize,
-    range: (usize, usize),
     form: Option<StructureForm>,
 ) -> Option<Fault>
-    ensures { fault_in result ≡ short_structure text.now place cells.now marks.now at range.0 range.1 form }
+    ensures { fault_in result ≡ short_structure text.now place cells.now marks.now at form }
 {
     match form {
         Some(form) if leaves_out(place, at, cells) => {
@@ -100,7 +99,7 @@ fn short_structure(
                 total: cells.len(),
             };
             let size = next_start(marks, cells.len()).saturating_sub(at);
-            short_of(&lines, range, size, form.name)
+            short_of(&lines, size)
         }
         _ => None,
     }
@@ -113,10 +112,9 @@ fn short_titled(
     cells: &[Cell],
     marks: &[Mark],
     at: usize,
-    range: (usize, usize),
     form: Option<InnerForm>,
 ) -> Option<Fault>
-    ensures { fault_in result ≡ short_titled text.now lists.now cells.now marks.now at range.0 range.1 form }
+    ensures { fault_in result ≡ short_titled text.now lists.now cells.now marks.now at form }
 {
     match form {
         Some(form) if leaves_out(inner_place(form.size), at, cells) => {
@@ -128,7 +126,7 @@ fn short_titled(
                 total: cells.len(),
             };
             let size = next_titled(text, lists, marks, cells.len()).saturating_sub(at);
-            short_of(&lines, range, size, form.name)
+            short_of(&lines, size)
         }
         _ => None,
     }
@@ -144,7 +142,7 @@ fn short_inners(text: &[u8], lists: &[InnerList], cells: &[Cell], marks: &[Mark]
             Mark::Line { at, from, to } => {
                 let form = titled(after_offset(part_at(from, to, text)), lists);
                 let next = &marks[i + 1..];
-                if let Some(fault) = short_titled(text, lists, cells, next, at, (from, to), form) {
+                if let Some(fault) = short_titled(text, lists, cells, next, at, form) {
                     return Some(fault);
                 }
             }
@@ -186,7 +184,7 @@ fn short_in(source: &Source, place: Place, cells: &[Cell], marks: &[Mark]) -> Op
             let heading = part_at(from, to, text);
             let bytes = from_offset(at, cells);
             let form = structure_form(source.kind, &source.form, heading, bytes);
-            if let Some(fault) = short_structure(text, place, cells, next, at, (from, to), form) {
+            if let Some(fault) = short_structure(text, place, cells, next, at, form) {
                 return Some(fault);
             }
             if let Some(fault) = short_of_form(text, form, cells, next) {
@@ -197,7 +195,7 @@ fn short_in(source: &Source, place: Place, cells: &[Cell], marks: &[Mark]) -> Op
     None
 }
 
-// Returns the fault of a table that lacks fields before its structures. It is at the first structure, or at the end of the text.
+// Returns the fault of a table that lacks fields before its structures.
 fn short_table(
     file_kind: FileKind,
     source: &Source,
@@ -216,7 +214,7 @@ fn short_table(
             total: cells.len(),
         };
         let size = next_start(marks, cells.len());
-        short_of(&lines, first_heading(marks), size, source.form.name)
+        short_of(&lines, size)
     } else {
         None
     }
