@@ -18,7 +18,7 @@ use Rattle.acpi_make.specs.Item.{known_cells, cells_of}
 use Rattle.acpi_make.specs.Laws.{made_text, HasBytes, TablesAreRead, TablesAreMade}
 use Rattle.acpi_make.specs.Made.{Table, sizes_own, made_of, unless, finished, or_doubt, made}
 use Rattle.acpi_make.specs.Meaning.{read}
-use Rattle.acpi_make.specs.Own.{next_start, next_line, none_own, table_own, references_own}
+use Rattle.acpi_make.specs.Own.{next_line, none_own, table_own, references_own}
 use Rattle.acpi_make.specs.Heading.{structure_form}
 use Rattle.acpi_make.specs.Lack.{lists_of}
 use Rattle.acpi_make.specs.Short.{any_left, size_place, inner_place, leaves_out}
@@ -37,8 +37,6 @@ use Rattle.acpi_make.specs.declared.item.Item.TheVariants as items
 use Rattle.acpi_make.specs.declared.extent.Own.{Own}
 use Rattle.acpi_make.specs.declared.state.State.TheVariants.{Start}
 use Rattle.acpi_text.specs.Table.{table_text}
-use Rattle.acpi_text.specs.declared.form.Inner.{Inner}
-use Rattle.acpi_text.specs.declared.form.Inner.TheVariants.{Nothing, Lists}
 use Rattle.acpi_text.specs.declared.form.InnerForm.{InnerForm}
 use Rattle.acpi_text.specs.declared.form.InnerList.{InnerList}
 use Rattle.acpi_text.specs.declared.form.StructureForm.{StructureForm}
@@ -291,7 +289,7 @@ one_passed s size covered one marks plain =
     ap (λ rest. cond (is_reference one) (differ s s size covered marks (one ∷ marks))
     (cond (begins_same s s size end one rest) (differ s s size next marks (drop 1 rest))
     (cond (has_no_name s one || is_empty s one end) (differ s s size next marks rest)
-    (Some (wanted_for s one rest size)))))
+    (Some (wanted_for s s one end rest size)))))
     (not_passed (is_reference one) (is_same s s one one) (is_within (mark_at one) covered) (past s s one covered marks) (one ∷ marks) plain same)
     ∙ second_chosen (is_reference one) (is_same s s one one && end == end) _ _ _ plain (both (is_same s s one one) (end == end) same (eq-eqb end end refl))
 

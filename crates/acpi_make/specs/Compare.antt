@@ -7,7 +7,7 @@ use Rattle.acpi_text.specs.Table.{table_text}
 use Rattle.acpi_text.specs.declared.form.StructureForm.{StructureForm}
 use Rattle.acpi_make.specs.Draft.{Drafted, nothing_yet, is_nameless, name_of_form, all_taken}
 use Rattle.acpi_make.specs.Entry.{find_anywhere, name_found, is_open}
-use Rattle.acpi_make.specs.Fault.{Fault, fault, next}
+use Rattle.acpi_make.specs.Fault.{Fault, fault, next, wide}
 use Rattle.acpi_make.specs.Gives.{and_then}
 use Rattle.acpi_make.specs.Heading.{described, find_named}
 use Rattle.acpi_make.specs.Meaning.{parts_of}
@@ -144,10 +144,16 @@ wanted_at t from to (Line at since until ∷ others) end =
     else next from to (name_found (find_anywhere (name_in t since until) t.form)) (next_line others end - at)
 wanted_at t from to (Reference at w since until ∷ others) end = fault from to wants.End
 
-abbrev pub wanted_for : Source → Mark → List Mark → ℕ → Fault
-wanted_for t (Structure at from to) others end = wanted_at t from to others end
-wanted_for t (Line at from to) others end = wanted_at t from to others end
-wanted_for t (Reference at w from to) others end = wanted_at t from to others end
+-- What has to stand in place of a mark that ends at an offset. If a line of the same field has to stand there, it is the number of
+-- its bytes.
+abbrev pub wanted_for : Source → Source → Mark → ℕ → List Mark → ℕ → Fault
+wanted_for s t (Line at from to) end (Line start since until ∷ others) size =
+    if at == start && is_same_name (name_in s from to) (name_in t since until)
+    then wide from to (name_found (find_anywhere (name_in t since until) t.form)) (next_line others size - at) (end - at)
+    else wanted_at t from to (Line start since until ∷ others) size
+wanted_for s t (Structure at from to) end others size = wanted_at t from to others size
+wanted_for s t (Line at from to) end others size = wanted_at t from to others size
+wanted_for s t (Reference at w from to) end others size = wanted_at t from to others size
 
 -- the end of a text, after which the other text has these marks
 abbrev pub wanted_after : Source → List Mark → ℕ → Option Fault
@@ -165,7 +171,7 @@ differ s t size covered (one ∷ marks) others =
     if is_reference one then differ s t size covered marks others
     else (if begins_same s t size end one rest then differ s t size (cover s one end covered) marks (drop 1 rest)
     else (if has_no_name s one || is_empty s one end then differ s t size (cover s one end covered) marks rest
-    else Some (wanted_for t one rest size)))
+    else Some (wanted_for s t one end rest size)))
 
 -- what is wrong with the lines of a text, if the text that shows its table has these parts
 abbrev pub difference : Option Walk → Source → Drafted → List ℕ → Result (Option Fault) Fault

@@ -1,5 +1,5 @@
 -- A table in the making: the bytes of a text's parts, and marks where structures, lines and references begin.
-use Rattle.std.specs.Prelude.{ℕ, ◌-◌, ◌==◌, nat_le, nat_lt, not, ◌&&◌, ◌||◌, Bool, true, false, if◌then◌else◌}
+use Rattle.std.specs.Prelude.{ℕ, ◌-◌, ◌==◌, nat_lt, not, ◌&&◌, ◌||◌, Bool, true, false, if◌then◌else◌}
 use Rattle.std.specs.Prelude.{List, [], ◌∷◌, ◌++◌, length, drop, replicate, codes, Option, Some, None, Result, Ok, Err}
 use Rattle.acpi_base.specs.Bytes.{le}
 use Rattle.acpi_text.specs.Structure.{all_forms, form_parts, form_inner}

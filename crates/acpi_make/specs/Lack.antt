@@ -7,7 +7,6 @@ use Rattle.acpi_base.specs.Walk.{place_offset}
 use Rattle.acpi_base.specs.declared.row.Row.{Row}
 use Rattle.acpi_base.specs.declared.row.Row.TheVariants as rows
 use Rattle.acpi_base.specs.declared.walk.Place.{Place}
-use Rattle.acpi_text.specs.declared.form.Count.{Count}
 use Rattle.acpi_text.specs.declared.form.Count.TheVariants.{Field}
 use Rattle.acpi_text.specs.declared.form.Inner.{Inner}
 use Rattle.acpi_text.specs.declared.form.Inner.TheVariants.{Nothing, Lists}

@@ -315,13 +315,39 @@ fn wanted_at(shown: &Source, from: usize, to: usize, others: &[Mark], end: usize
     }
 }
 
-fn wanted_for(shown: &Source, one: &Mark, others: &[Mark], end: usize) -> Fault
-    ensures { fault_of result ≡ wanted_for (source_of shown.now) one.now others.now end }
+// Returns the fault of a mark that ends at an offset. If a line of the same field has to stand there, the fault is its number of
+// bytes.
+fn wanted_for(
+    source: &Source,
+    shown: &Source,
+    one: &Mark,
+    end: usize,
+    others: &[Mark],
+    size: usize,
+) -> Fault
+    ensures { fault_of result
+        ≡ wanted_for (source_of source.now) (source_of shown.now) one.now end others.now size }
 {
-    match *one {
-        Mark::Structure { from, to, .. } => wanted_at(shown, from, to, others, end),
-        Mark::Line { from, to, .. } => wanted_at(shown, from, to, others, end),
-        Mark::Reference { from, to, .. } => wanted_at(shown, from, to, others, end),
+    match (*one, others) {
+        (
+            Mark::Line { at, from, to },
+            [
+                Mark::Line {
+                    at: start,
+                    from: since,
+                    to: until,
+                },
+                more @ ..,
+            ],
+        ) if at == *start
+            && is_same_name(name_in(source, from, to), name_in(shown, *since, *until)) => {
+            let field = find_anywhere(name_in(shown, *since, *until), &shown.form);
+            let width = next_line(more, size).saturating_sub(at);
+            Fault::wide(from, to, name_found(field), width, end.saturating_sub(at))
+        }
+        (Mark::Structure { from, to, .. }, _) => wanted_at(shown, from, to, others, size),
+        (Mark::Line { from, to, .. }, _) => wanted_at(shown, from, to, others, size),
+        (Mark::Reference { from, to, .. }, _) => wanted_at(shown, from, to, others, size),
     }
 }
 
@@ -365,7 +391,7 @@ fn compare<'a>(
     if has_no_name(source, one) || is_empty(source, one, end) {
         return Ok((next, rest));
     }
-    Err(wanted_for(shown, one, rest, size))
+    Err(wanted_for(source, shown, one, end, rest, size))
 }
 
 // Returns what is wrong with the first mark of a text that the other text doesn't have in its place. Both have tables of this
