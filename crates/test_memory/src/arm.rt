@@ -190,7 +190,7 @@ fn add_counters(table: &mut IORT, alloc: Global) -> R<()> {
 }
 
 impl Grows for IORT {
-    const WAYS: u8 = 7;
+    const WAYS: u8 = 8;
 
     fn empty(alloc: Global) -> R<IORT> {
         Ok(iort(alloc))
@@ -204,7 +204,8 @@ impl Grows for IORT {
             3 => done(self.add_smmu(smmu(alloc))),
             4 => done(self.add_smmu_v3(smmu_v3(alloc))),
             5 => add_counters(self, alloc),
-            _ => self.add_reserved_memory(memory(alloc)),
+            6 => self.add_reserved_memory(memory(alloc)),
+            _ => done(self.add_earlier_root_complex(RootComplex::new(alloc, 1).earlier())),
         }
     }
 }

@@ -12,14 +12,17 @@ use std::alloc::Global;
 use test_support::{OEM, OEM_REVISION, OEM_TABLE};
 
 impl Grows for HEST {
-    const WAYS: u8 = 1;
+    const WAYS: u8 = 2;
 
     fn empty(alloc: Global) -> R<HEST> {
         Ok(HEST::new(alloc, OEM, OEM_TABLE, OEM_REVISION))
     }
 
-    fn grow(&mut self, _alloc: Global, _way: u8) -> R<()> {
-        self.add_structure(PcieAerRootPort::new_global())
+    fn grow(&mut self, _alloc: Global, way: u8) -> R<()> {
+        match way {
+            0 => self.add_structure(PcieAerRootPort::new_global()),
+            _ => self.add_borrowed_structure(&PcieAerRootPort::new_global()),
+        }
     }
 }
 

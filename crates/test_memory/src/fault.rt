@@ -1,7 +1,8 @@
 //! Why a run fails.
 
+use acpi_loader::LoaderFault;
 use acpi_tables::Error;
-use acpi_tables::layout::ImageFault;
+use acpi_tables::layout::{ImageFault, LayFault, RsdtFault};
 use acpi_tables::read::ReadError;
 use std::alloc::{AllocError, AllocFailed};
 use std::io;
@@ -17,6 +18,9 @@ pub enum Fault {
     Built(Error),
     Read(ReadError),
     Image(ImageFault),
+    Low(RsdtFault),
+    Files(LayFault),
+    Loader(LoaderFault),
     /// The output can't be written.
     Output(io::Error),
 }
@@ -44,6 +48,33 @@ impl From<ImageFault> for Fault {
         match error {
             ImageFault::Memory => Fault::Memory,
             other => Fault::Image(other),
+        }
+    }
+}
+
+impl From<RsdtFault> for Fault {
+    fn from(error: RsdtFault) -> Fault {
+        match error {
+            RsdtFault::Table(Error::Memory) => Fault::Memory,
+            other => Fault::Low(other),
+        }
+    }
+}
+
+impl From<LayFault> for Fault {
+    fn from(error: LayFault) -> Fault {
+        match error {
+            LayFault::Memory => Fault::Memory,
+            other => Fault::Files(other),
+        }
+    }
+}
+
+impl From<LoaderFault> for Fault {
+    fn from(error: LoaderFault) -> Fault {
+        match error {
+            LoaderFault::NotLaid(LayFault::Memory) => Fault::Memory,
+            other => Fault::Loader(other),
         }
     }
 }

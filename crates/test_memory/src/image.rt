@@ -1,20 +1,28 @@
-//! The image of a guest's tables.
+//! The images of a guest's tables, and the loader of files.
 
 use crate::fault::Fault;
 use crate::trial::{Grows, Trial};
+use acpi_loader::loader_of;
 use acpi_tables::facs::FACS;
 use acpi_tables::fadt::FADTBuilder;
-use acpi_tables::layout::{Image, check_image, lay, lay_reduced};
+use acpi_tables::layout::{
+    Image, Range, Root, RsdtImage, check_image, check_image_of, check_memory, lay, lay_files,
+    lay_reduced, lay_reduced_rsdt, lay_rsdt,
+};
 use acpi_tables::mcfg::MCFG;
 use acpi_tables::sdt::Sdt;
 use acpi_tables::{Aml, R};
 use std::alloc::Global;
-use test_support::{OEM, OEM_REVISION, OEM_TABLE};
+use test_support::{OEM, OEM_REVISION, OEM_TABLE, written};
 
 fn mcfg(alloc: Global) -> R<MCFG> {
     let mut table = MCFG::empty(alloc)?;
     table.grow(alloc, 0)?;
     Ok(table)
+}
+
+fn fadt() -> FADTBuilder {
+    FADTBuilder::new(OEM, OEM_TABLE, OEM_REVISION)
 }
 
 fn image(alloc: Global, block: &Sdt, table: &MCFG) -> R<Image> {
@@ -25,7 +33,7 @@ fn image(alloc: Global, block: &Sdt, table: &MCFG) -> R<Image> {
         OEM_REVISION,
         block,
         &FACS::new(),
-        FADTBuilder::new(OEM, OEM_TABLE, OEM_REVISION),
+        fadt(),
         vec![in alloc; table as &dyn Aml]?,
     )
 }
@@ -37,12 +45,54 @@ fn reduced_image(alloc: Global, block: &Sdt, table: &MCFG) -> R<Image> {
         OEM_TABLE,
         OEM_REVISION,
         block,
-        FADTBuilder::new(OEM, OEM_TABLE, OEM_REVISION),
+        fadt(),
         vec![in alloc; table as &dyn Aml]?,
     )
 }
 
-// Makes an image, the list of its tables, and that of the addresses in its XSDT.
+fn low_image(alloc: Global, block: &Sdt, table: &MCFG) -> Result<RsdtImage, Fault> {
+    let tables = vec![in alloc; table as &dyn Aml]?;
+    Ok(lay_rsdt(
+        0x1000,
+        0x11f0,
+        OEM,
+        OEM_TABLE,
+        OEM_REVISION,
+        block,
+        &FACS::new(),
+        fadt(),
+        tables,
+    )?)
+}
+
+fn low_reduced_image(alloc: Global, block: &Sdt, table: &MCFG) -> Result<RsdtImage, Fault> {
+    let tables = vec![in alloc; table as &dyn Aml]?;
+    Ok(lay_reduced_rsdt(
+        0x1000,
+        0x11f0,
+        OEM,
+        OEM_TABLE,
+        OEM_REVISION,
+        block,
+        fadt(),
+        tables,
+    )?)
+}
+
+// Makes the list of an image's tables in both ways, and that of the addresses in its XSDT.
+fn lists(trial: &mut Trial, alloc: Global, lent: &dyn Aml, image: &Image) -> Result<(), Fault> {
+    let bytes = image.bytes.as_slice();
+    trial.make(lent, || Ok(check_image(alloc, bytes, 0x1000, image.rsdp)?))?;
+    let range = Range {
+        address: 0x1000,
+        bytes,
+    };
+    trial.make(lent, || Ok(check_memory(alloc, &[range], image.rsdp)?))?;
+    trial.make(lent, || Ok(image.addresses(alloc, 0x1000)?))?;
+    Ok(())
+}
+
+// Makes an image and its lists.
 fn whole(
     trial: &mut Trial,
     alloc: Global,
@@ -52,10 +102,7 @@ fn whole(
 ) -> Result<(), Fault> {
     let image = trial.make(lent, || Ok(image(alloc, block, table)?))?;
     trial.count(&image.bytes);
-    let check = || Ok(check_image(alloc, &image.bytes, 0x1000, image.rsdp)?);
-    trial.make(lent, check)?;
-    trial.make(lent, || Ok(image.addresses(alloc, 0x1000)?))?;
-    Ok(())
+    lists(trial, alloc, lent, &image)
 }
 
 // Makes an image without a FACS.
@@ -71,12 +118,86 @@ fn reduced(
     Ok(())
 }
 
+// The bytes of an image of 492 bytes at 0x1000, and the RSDP at 0x11f0.
+fn with_pointer(alloc: Global, image: &RsdtImage) -> R<Vec<u8>> {
+    let mut bytes = Vec::from_slice(alloc, &image.bytes)?;
+    bytes.resize(496, 0)?;
+    bytes.extend_from_slice(&image.pointer)?;
+    Ok(bytes)
+}
+
+// Makes an image with an RSDT, and the list of its tables.
+fn low(
+    trial: &mut Trial,
+    alloc: Global,
+    lent: &dyn Aml,
+    block: &Sdt,
+    table: &MCFG,
+) -> Result<(), Fault> {
+    let image = trial.make(lent, || low_image(alloc, block, table))?;
+    let bytes = trial.make(lent, || Ok(with_pointer(alloc, &image)?))?;
+    trial.count(&bytes);
+    let check = || Ok(check_image_of(alloc, Root::Rsdt, &bytes, 0x1000, 0x11f0)?);
+    trial.make(lent, check)?;
+    Ok(())
+}
+
+// Makes an image with an RSDT and without a FACS.
+fn low_reduced(
+    trial: &mut Trial,
+    alloc: Global,
+    lent: &dyn Aml,
+    block: &Sdt,
+    table: &MCFG,
+) -> Result<(), Fault> {
+    let image = trial.make(lent, || low_reduced_image(alloc, block, table))?;
+    trial.count(&image.bytes);
+    trial.count(&image.pointer);
+    Ok(())
+}
+
+fn files_of(alloc: Global, objects: &[&dyn Aml]) -> R<Vec<Vec<u8>>> {
+    let mut files = Vec::new(alloc);
+    for object in objects {
+        files.push(written(alloc, *object)?)?;
+    }
+    Ok(files)
+}
+
+// Makes the image of files, and their loader.
+fn from_files(
+    trial: &mut Trial,
+    alloc: Global,
+    lent: &dyn Aml,
+    files: &[Vec<u8>],
+) -> Result<(), Fault> {
+    let image = trial.make(lent, || Ok(lay_files(alloc, 0x1000, files)?))?;
+    trial.count(&image.bytes);
+    let loader = trial.make(lent, || Ok(loader_of(alloc, files)?))?;
+    for file in [&loader.tables, &loader.rsdp, &loader.script] {
+        trial.count(file);
+    }
+    Ok(())
+}
+
+// Makes files of a FACS, a definition block, a FADT and a table, and what is made of them.
+fn filed(trial: &mut Trial, alloc: Global, block: &Sdt, table: &MCFG) -> Result<(), Fault> {
+    let fadt = fadt().finalize();
+    let files = trial.make(table, || {
+        Ok(files_of(alloc, &[&FACS::new() as &dyn Aml, block, &fadt, table])?)
+    })?;
+    from_files(trial, alloc, table, &files)
+}
+
 /// An image, which borrows the definition block and the tables, the list of its tables, and that of the addresses in its XSDT.
-/// And an image without a FACS.
+/// Images without a FACS, with an RSDT, and of files, and a loader.
 pub fn images(trial: &mut Trial, alloc: Global) -> Result<(), Fault> {
     let block = trial.make(&0x1000u16, || Ok(Sdt::empty(alloc)?))?;
     let table = trial.make(&block, || Ok(mcfg(alloc)?))?;
     whole(trial, alloc, &block, &block, &table)?;
     whole(trial, alloc, &table, &block, &table)?;
-    reduced(trial, alloc, &table, &block, &table)
+    reduced(trial, alloc, &table, &block, &table)?;
+    low(trial, alloc, &table, &block, &table)?;
+    low_reduced(trial, alloc, &table, &block, &table)?;
+    filed(trial, alloc, &block, &table)
 }

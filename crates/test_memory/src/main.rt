@@ -8,7 +8,8 @@
 //!   of `grow` in this way. `grow` of MADT in way 1 adds one structure in all, since a MADT has one IMSIC at most;
 //! - the error data entry with five objects of three bytes, and the three clones (`errors`);
 //! - each object of `part`, `aml`, `descriptors`, `operators` and `built`, once;
-//! - the image, twice (`image`);
+//! - the image, twice; that without a FACS; that with an RSDT, with four zeros and the RSDP after it; that with an RSDT and
+//!   without a FACS, and its RSDP; that of files, and the three files of a loader (`image`);
 //! - the reports of three lists of terms, an XSDT's report of its header, its whole report, and its two entries, and
 //!   the structure of a GTDT (`reading`).
 //!
@@ -22,11 +23,13 @@ mod aml;
 mod arm;
 mod blocks;
 mod built;
+mod channels;
 mod cxl;
 mod descriptors;
 mod errors;
 mod fault;
 mod image;
+mod ivrs;
 mod lists;
 mod matrices;
 mod nodes;
@@ -42,15 +45,19 @@ use acpi_tables::aml::PackageBuilder;
 use acpi_tables::cedt::{CEDT, XorInterleaveMath};
 use acpi_tables::dbg2::DBG2;
 use acpi_tables::dmar::DMAR;
+use acpi_tables::erst::ERST;
+use acpi_tables::fpdt::FPDT;
 use acpi_tables::gtdt::{GTDT, GtBlock};
 use acpi_tables::hest::HEST;
 use acpi_tables::hmat::{HMAT, MemorySideCache};
 use acpi_tables::iort::{
     IORT, ItsGroup, NamedComponent, ReservedMemory, RootComplex, Smmu, SmmuV3,
 };
+use acpi_tables::ivrs::IVRS;
 use acpi_tables::madt::MADT;
 use acpi_tables::mcfg::MCFG;
 use acpi_tables::nfit::NFIT;
+use acpi_tables::pcct::PCCT;
 use acpi_tables::pptt::PPTT;
 use acpi_tables::rhct::RHCT;
 use acpi_tables::rimt::RIMT;
@@ -130,8 +137,12 @@ fn fill_arm(trial: &mut Trial, alloc: Global) -> Result<(), Fault> {
 
 fn fill_pc(trial: &mut Trial, alloc: Global) -> Result<(), Fault> {
     trial.fill::<RSDT>(alloc)?;
+    trial.fill::<FPDT>(alloc)?;
+    trial.fill::<ERST>(alloc)?;
     trial.fill::<DMAR>(alloc)?;
-    trial.fill::<NFIT>(alloc)
+    trial.fill::<NFIT>(alloc)?;
+    trial.fill::<IVRS>(alloc)?;
+    trial.fill::<PCCT>(alloc)
 }
 
 // Structures and tables that are made whole by one call.

@@ -2,8 +2,14 @@
 
 use crate::trial::Grows;
 use acpi_tables::R;
-use acpi_tables::dmar::{Andd, DMAR, DeviceScope, Drhd, ScopeType};
-use acpi_tables::nfit::{FlushHint, Interleave, NFIT, SmbiosInformation};
+use acpi_tables::dmar::{Andd, Atsr, DMAR, DeviceScope, Drhd, Rhsa, Rmrr, Satc, ScopeType, Sidp};
+use acpi_tables::erst::{Action, ERST, Instruction, SerializationEntry};
+use acpi_tables::fpdt::FPDT;
+use acpi_tables::gas::GAS;
+use acpi_tables::nfit::{
+    Capabilities, ControlRegion, DataWindow, FlushHint, Interleave, NFIT, RangeType, RegionMapping,
+    SmbiosInformation, SpaRange,
+};
 use acpi_tables::rsdt::RSDT;
 use std::alloc::Global;
 use test_support::{OEM, OEM_REVISION, OEM_TABLE};
@@ -17,6 +23,37 @@ impl Grows for RSDT {
 
     fn grow(&mut self, _alloc: Global, _way: u8) -> R<()> {
         self.add_entry(0x1234)
+    }
+}
+
+impl Grows for FPDT {
+    const WAYS: u8 = 2;
+
+    fn empty(alloc: Global) -> R<FPDT> {
+        Ok(FPDT::new(alloc, OEM, OEM_TABLE, OEM_REVISION))
+    }
+
+    fn grow(&mut self, _alloc: Global, way: u8) -> R<()> {
+        match way {
+            0 => self.add_boot_pointer(0x1234),
+            _ => self.add_s3_pointer(0x5678),
+        }
+    }
+}
+
+fn step() -> SerializationEntry {
+    SerializationEntry::new(Action::Execute, Instruction::Noop, GAS::default(), 1, 2)
+}
+
+impl Grows for ERST {
+    const WAYS: u8 = 1;
+
+    fn empty(alloc: Global) -> R<ERST> {
+        Ok(ERST::new(alloc, OEM, OEM_TABLE, OEM_REVISION))
+    }
+
+    fn grow(&mut self, _alloc: Global, _way: u8) -> R<()> {
+        self.add_entry(step())
     }
 }
 
@@ -34,8 +71,42 @@ fn unit(alloc: Global, scope: &DeviceScope) -> R<Drhd> {
     Ok(unit)
 }
 
+fn region(alloc: Global, scope: &DeviceScope) -> R<Rmrr> {
+    let mut region = Rmrr::new(alloc, 0, 0x1000, 0x1fff);
+    region.add_scope(scope)?;
+    Ok(region)
+}
+
+fn ports(alloc: Global, scope: &DeviceScope) -> R<Atsr> {
+    let mut ports = Atsr::new(alloc, 0);
+    ports.add_scope(scope)?;
+    Ok(ports)
+}
+
+fn caches(alloc: Global, scope: &DeviceScope) -> R<Satc> {
+    let mut caches = Satc::new(alloc, 0);
+    caches.add_scope(scope)?;
+    Ok(caches)
+}
+
+fn devices(alloc: Global, scope: &DeviceScope) -> R<Sidp> {
+    let mut devices = Sidp::new(alloc, 0);
+    devices.add_scope(scope)?;
+    Ok(devices)
+}
+
+fn add_scoped(table: &mut DMAR, alloc: Global, scope: &DeviceScope, way: u8) -> R<()> {
+    match way {
+        0 => table.add_drhd(unit(alloc, scope)?),
+        1 => table.add_rmrr(region(alloc, scope)?),
+        2 => table.add_atsr(ports(alloc, scope)?),
+        3 => table.add_satc(caches(alloc, scope)?),
+        _ => table.add_sidp(devices(alloc, scope)?),
+    }
+}
+
 impl Grows for DMAR {
-    const WAYS: u8 = 2;
+    const WAYS: u8 = 7;
 
     fn empty(alloc: Global) -> R<DMAR> {
         Ok(DMAR::new(alloc, OEM, OEM_TABLE, OEM_REVISION, 38, 0))
@@ -43,8 +114,9 @@ impl Grows for DMAR {
 
     fn grow(&mut self, alloc: Global, way: u8) -> R<()> {
         match way {
-            0 => self.add_drhd(unit(alloc, &scope(alloc)?)?),
-            _ => self.add_andd(Andd::new(alloc, 5, "\\_SB.DEV0")?),
+            5 => self.add_andd(Andd::new(alloc, 5, "\\_SB.DEV0")?),
+            6 => self.add_rhsa(Rhsa::new(0xfed9_0000, 1)),
+            _ => add_scoped(self, alloc, &scope(alloc)?, way),
         }
     }
 }
@@ -63,8 +135,22 @@ fn hint(alloc: Global) -> R<FlushHint> {
     Ok(hint)
 }
 
+fn range() -> SpaRange {
+    SpaRange::new(1, RangeType::Persistent, 0x1000, 0x2000, 8).location_cookie(9)
+}
+
+fn add_record(table: &mut NFIT, way: u8) -> R<()> {
+    match way {
+        0 => table.add_spa_range(range()),
+        1 => table.add_region_mapping(RegionMapping::new(1, 2, 3, 0x2000)),
+        2 => table.add_control_region(ControlRegion::new(1, 2, 3, 4, 5, 6)),
+        3 => table.add_data_window(DataWindow::new(1, 2, 3, 4, 5, 6)),
+        _ => table.add_capabilities(Capabilities::new(1).cache_flush()),
+    }
+}
+
 impl Grows for NFIT {
-    const WAYS: u8 = 3;
+    const WAYS: u8 = 8;
 
     fn empty(alloc: Global) -> R<NFIT> {
         Ok(NFIT::new(alloc, OEM, OEM_TABLE, OEM_REVISION))
@@ -72,9 +158,10 @@ impl Grows for NFIT {
 
     fn grow(&mut self, alloc: Global, way: u8) -> R<()> {
         match way {
-            0 => self.add_interleave(interleave(alloc)?),
-            1 => self.add_flush_hint(hint(alloc)?),
-            _ => self.add_smbios_information(SmbiosInformation::new(alloc, &[1, 2, 3, 4])?),
+            5 => self.add_interleave(interleave(alloc)?),
+            6 => self.add_flush_hint(hint(alloc)?),
+            7 => self.add_smbios_information(SmbiosInformation::new(alloc, &[1, 2, 3, 4])?),
+            _ => add_record(self, way),
         }
     }
 }
