@@ -4,11 +4,11 @@ use crate::short::{starve, starve_all, starve_made};
 use acpi_tables::R;
 use acpi_tables::dbg2::{DBG2, DebugDevice, DebugPort};
 use acpi_tables::gas::GAS;
-use acpi_tables::gtdt::{GTDT, GenericWatchdog, GtBlock, GtBlockTimer, Timer, Timers};
+use acpi_tables::gtdt::{EarlierGTDT, GTDT, GenericWatchdog, GtBlock, GtBlockTimer, Timer, Timers};
 use acpi_tables::iort::{
-    AccessAttributes, IORT, IdMapping, ItsGroup, ItsGroupHandle, MemoryRange, Monitored,
-    NamedComponent, Output, Pmcg, ReservedMemory, RootComplex, Smmu, SmmuInterrupt, SmmuModel,
-    SmmuV3, SmmuV3Handle, SmmuV3Model,
+    AccessAttributes, EarlierRootComplex, IORT, IdMapping, ItsGroup, ItsGroupHandle, MemoryRange,
+    Monitored, NamedComponent, Output, Pmcg, ReservedMemory, RootComplex, Smmu, SmmuInterrupt,
+    SmmuModel, SmmuV3, SmmuV3Handle, SmmuV3Model,
 };
 use std::alloc::Global;
 use std::test::Fail;
@@ -18,10 +18,13 @@ fn block(alloc: Global) -> R<GtBlock> {
     GtBlock::new(alloc, 1, GtBlockTimer::new(2, 3))
 }
 
+fn timers() -> Timers {
+    Timers::new(Timer::new(30), Timer::new(27))
+}
+
 // The table has 192 bytes: 104, a block of one timer of 60, and a watchdog of 28.
 fn made_gtdt(alloc: Global) -> R<GTDT> {
-    let timers = Timers::new(Timer::new(30), Timer::new(27));
-    let mut gtdt = GTDT::new(alloc, OEM, OEM_TABLE, OEM_REVISION, timers);
+    let mut gtdt = GTDT::new(alloc, OEM, OEM_TABLE, OEM_REVISION, timers());
     gtdt.add_gt_block(block(alloc)?)?;
     gtdt.add_generic_watchdog(GenericWatchdog::new(4, 5, 6))?;
     Ok(gtdt)
@@ -35,6 +38,10 @@ fn gtdt(rt: HostRuntime) -> Result<(), Fail> {
         &[
             (40, &GtBlockTimer::new(2, 3)),
             (28, &GenericWatchdog::new(4, 5, 6)),
+            (
+                96,
+                &EarlierGTDT::new(OEM, OEM_TABLE, OEM_REVISION, timers()),
+            ),
         ],
     )?;
     starve_made(alloc, 60, block(alloc))?;
@@ -87,6 +94,11 @@ fn complex(alloc: Global, group: ItsGroupHandle) -> R<RootComplex> {
     let mut complex = RootComplex::new(alloc, 4);
     complex.add_mapping(mapping(group))?;
     Ok(complex)
+}
+
+// The form of node revision 3 has four bytes less.
+fn earlier_complex(alloc: Global, group: ItsGroupHandle) -> R<EarlierRootComplex> {
+    Ok(complex(alloc, group)?.earlier())
 }
 
 fn smmu(alloc: Global, group: ItsGroupHandle) -> R<Smmu> {
@@ -145,7 +157,8 @@ fn iort_devices(rt: HostRuntime) -> Result<(), Fail> {
     let group = empty_iort(alloc).add_its_group(group(alloc)?)?;
     starve(alloc, 20, &mapping(group))?;
     starve_made(alloc, 60, component(alloc, group))?;
-    starve_made(alloc, 60, complex(alloc, group))
+    starve_made(alloc, 60, complex(alloc, group))?;
+    starve_made(alloc, 56, earlier_complex(alloc, group))
 }
 
 #[test]

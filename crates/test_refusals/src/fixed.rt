@@ -4,10 +4,10 @@ use crate::short::{starve, starve_all};
 use acpi_tables::bert::BERT;
 use acpi_tables::bgrt::BGRT;
 use acpi_tables::facs::FACS;
-use acpi_tables::fadt::FADTBuilder;
+use acpi_tables::fadt::{FADTBuilder, FadtRelease};
 use acpi_tables::gas::{AccessSize, AddressSpace, GAS};
 use acpi_tables::hpet::{EventTimerBlockId, HPET};
-use acpi_tables::rsdp::Rsdp;
+use acpi_tables::rsdp::{Rsdp, Rsdp0};
 use acpi_tables::spcr::SPCR;
 use acpi_tables::tpm2::{PlatformClass, StartMethod, Tpm2, TpmClient1_2, TpmServer1_2};
 use acpi_tables::waet::WAET;
@@ -47,6 +47,19 @@ fn records(rt: HostRuntime) -> Result<(), Fail> {
                 56,
                 &HPET::new(OEM, OEM_TABLE, OEM_REVISION, timers, register),
             ),
+        ],
+    )
+}
+
+#[test]
+fn earlier_revisions(rt: HostRuntime) -> Result<(), Fail> {
+    let fadt = FADTBuilder::new(OEM, OEM_TABLE, OEM_REVISION);
+    starve_all(
+        rt.alloc(),
+        &[
+            (20, &Rsdp0::new(OEM, 0x0403_0201)),
+            (116, &fadt.finalize_earlier(FadtRelease::Acpi1_0)),
+            (80, &SPCR::sbi(OEM, OEM_TABLE, OEM_REVISION).earlier()),
         ],
     )
 }

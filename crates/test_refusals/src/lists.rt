@@ -7,11 +7,16 @@ use acpi_tables::cedt::{
     InterleaveWays, PortAssociation, ProtocolType, XorInterleaveMath,
 };
 use acpi_tables::madt::{
-    APLIC, EnabledStatus, GicIts, GicMsi, GicVersion, Gicc, Gicd, Gicr, HartStatus, IMSIC, IoApic,
-    LocalInterruptController, MADT, PLIC, ProcessorLocalApic, RINTC,
+    APLIC, EnabledStatus, GicIts, GicMsi, GicVersion, Gicc, Gicd, Gicr, HartStatus, IMSIC,
+    InterruptSourceOverride, IoApic, LocalApicAddressOverride, LocalApicNmi,
+    LocalInterruptController, LocalX2ApicNmi, MADT, NmiSource, PLIC, ProcessorLocalApic,
+    ProcessorLocalX2Apic, RINTC,
 };
 use acpi_tables::mcfg::MCFG;
-use acpi_tables::srat::{GenericInitiator, Handle, MemoryAffinity, RintcAffinity, SRAT};
+use acpi_tables::srat::{
+    GenericInitiator, GicItsAffinity, GiccAffinity, Handle, MemoryAffinity,
+    ProcessorLocalApicAffinity, ProcessorLocalX2ApicAffinity, RintcAffinity, SRAT,
+};
 use acpi_tables::xsdt::XSDT;
 use std::alloc::Global;
 use std::test::Fail;
@@ -75,6 +80,26 @@ fn interrupt_controllers(rt: HostRuntime) -> Result<(), Fail> {
             (16, &IMSIC::new(1, 2, 3, 4, 5, 6)),
             (36, &APLIC::new(1, *b"hardware", 2, 3, 4, 5, 6)),
             (36, &PLIC::new(1, *b"hardware", 2, 3, 4, 5, 6)),
+        ],
+    )
+}
+
+#[test]
+fn interrupts_and_processors(rt: HostRuntime) -> Result<(), Fail> {
+    starve_all(
+        rt.alloc(),
+        &[
+            (10, &InterruptSourceOverride::new(1, 2)),
+            (8, &NmiSource::new(1)),
+            (6, &LocalApicNmi::new(1, 2)),
+            (12, &LocalX2ApicNmi::new(1, 2)),
+            (12, &LocalApicAddressOverride::new(1)),
+            (16, &ProcessorLocalX2Apic::new(1, 2, EnabledStatus::Enabled)),
+            (80, &Gicc::new(EnabledStatus::Enabled).earlier()),
+            (16, &ProcessorLocalApicAffinity::new(1, 2)),
+            (24, &ProcessorLocalX2ApicAffinity::new(1, 2)),
+            (18, &GiccAffinity::new(1, 2)),
+            (12, &GicItsAffinity::new(1, 2)),
         ],
     )
 }
