@@ -20,26 +20,30 @@ const IOMMU: Iommu = Iommu {
 
 const HID: [u8; 8] = *b"AMDI0020";
 
-fn unit(alloc: Global, device: &AcpiDevice) -> R<Ivhd> {
+fn add_unit(table: &mut IVRS, alloc: Global, device: &AcpiDevice) -> R<()> {
     let mut unit = Ivhd::new(alloc, IOMMU, 4);
     unit.add_entry(DeviceEntry::All(0))?;
     unit.add_acpi_device(device)?;
-    Ok(unit)
+    table.add_ivhd(unit)
 }
 
-fn extended_unit(alloc: Global, device: &AcpiDevice) -> R<ExtendedIvhd> {
+fn add_extended_unit(table: &mut IVRS, alloc: Global, device: &AcpiDevice) -> R<()> {
     let mut unit = ExtendedIvhd::new(alloc, ExtendedType::AcpiDevices, IOMMU, 4, 5, 6);
     unit.add_entry(DeviceEntry::All(0))?;
     unit.add_acpi_device(device)?;
-    Ok(unit)
+    table.add_extended_ivhd(unit)
 }
 
-fn numbered(alloc: Global) -> R<AcpiDevice> {
-    AcpiDevice::of_number(alloc, 1, 2, HID, HID, 3)
+// Adds the unit of a device whose unique ID is a number.
+fn add_numbered(table: &mut IVRS, alloc: Global) -> R<()> {
+    let device = AcpiDevice::of_number(alloc, 1, 2, HID, HID, 3)?;
+    add_unit(table, alloc, &device)
 }
 
-fn named(alloc: Global) -> R<AcpiDevice> {
-    AcpiDevice::of_text(alloc, 1, 2, HID, HID, "\\_SB.DEV0")
+// Adds that of a device whose unique ID is a text.
+fn add_named(table: &mut IVRS, alloc: Global) -> R<()> {
+    let device = AcpiDevice::of_text(alloc, 1, 2, HID, HID, "\\_SB.DEV0")?;
+    add_extended_unit(table, alloc, &device)
 }
 
 impl Grows for IVRS {
@@ -52,8 +56,8 @@ impl Grows for IVRS {
 
     fn grow(&mut self, alloc: Global, way: u8) -> R<()> {
         match way {
-            0 => self.add_ivhd(unit(alloc, &numbered(alloc)?)?),
-            1 => self.add_extended_ivhd(extended_unit(alloc, &named(alloc)?)?),
+            0 => add_numbered(self, alloc),
+            1 => add_named(self, alloc),
             _ => self.add_ivmd(Ivmd::new(Peripherals::One(1), 0x1000, 0x2000)),
         }
     }

@@ -64,45 +64,49 @@ fn scope(alloc: Global) -> R<DeviceScope> {
     Ok(scope)
 }
 
-fn unit(alloc: Global, scope: &DeviceScope) -> R<Drhd> {
+fn add_drhd(table: &mut DMAR, alloc: Global, scope: &DeviceScope) -> R<()> {
     let mut unit = Drhd::new(alloc, 0, 0xfed9_0000);
     unit.add_scope(scope)?;
     unit.add_scope(scope)?;
-    Ok(unit)
+    table.add_drhd(unit)
 }
 
-fn region(alloc: Global, scope: &DeviceScope) -> R<Rmrr> {
+fn add_rmrr(table: &mut DMAR, alloc: Global, scope: &DeviceScope) -> R<()> {
     let mut region = Rmrr::new(alloc, 0, 0x1000, 0x1fff);
     region.add_scope(scope)?;
-    Ok(region)
+    table.add_rmrr(region)
 }
 
-fn ports(alloc: Global, scope: &DeviceScope) -> R<Atsr> {
+fn add_atsr(table: &mut DMAR, alloc: Global, scope: &DeviceScope) -> R<()> {
     let mut ports = Atsr::new(alloc, 0);
     ports.add_scope(scope)?;
-    Ok(ports)
+    table.add_atsr(ports)
 }
 
-fn caches(alloc: Global, scope: &DeviceScope) -> R<Satc> {
-    let mut caches = Satc::new(alloc, 0);
-    caches.add_scope(scope)?;
-    Ok(caches)
+fn add_satc(table: &mut DMAR, alloc: Global, scope: &DeviceScope) -> R<()> {
+    let mut devices = Satc::new(alloc, 0);
+    devices.add_scope(scope)?;
+    table.add_satc(devices)
 }
 
-fn devices(alloc: Global, scope: &DeviceScope) -> R<Sidp> {
+fn add_sidp(table: &mut DMAR, alloc: Global, scope: &DeviceScope) -> R<()> {
     let mut devices = Sidp::new(alloc, 0);
     devices.add_scope(scope)?;
-    Ok(devices)
+    table.add_sidp(devices)
 }
 
 fn add_scoped(table: &mut DMAR, alloc: Global, scope: &DeviceScope, way: u8) -> R<()> {
     match way {
-        0 => table.add_drhd(unit(alloc, scope)?),
-        1 => table.add_rmrr(region(alloc, scope)?),
-        2 => table.add_atsr(ports(alloc, scope)?),
-        3 => table.add_satc(caches(alloc, scope)?),
-        _ => table.add_sidp(devices(alloc, scope)?),
+        0 => add_drhd(table, alloc, scope),
+        1 => add_rmrr(table, alloc, scope),
+        2 => add_atsr(table, alloc, scope),
+        3 => add_satc(table, alloc, scope),
+        _ => add_sidp(table, alloc, scope),
     }
+}
+
+fn add_andd(table: &mut DMAR, alloc: Global) -> R<()> {
+    table.add_andd(Andd::new(alloc, 5, "\\_SB.DEV0")?)
 }
 
 impl Grows for DMAR {
@@ -114,25 +118,29 @@ impl Grows for DMAR {
 
     fn grow(&mut self, alloc: Global, way: u8) -> R<()> {
         match way {
-            5 => self.add_andd(Andd::new(alloc, 5, "\\_SB.DEV0")?),
+            5 => add_andd(self, alloc),
             6 => self.add_rhsa(Rhsa::new(0xfed9_0000, 1)),
             _ => add_scoped(self, alloc, &scope(alloc)?, way),
         }
     }
 }
 
-fn interleave(alloc: Global) -> R<Interleave> {
+fn add_interleave(table: &mut NFIT, alloc: Global) -> R<()> {
     let mut interleave = Interleave::new(alloc, 1, 256);
     interleave.add_line(3)?;
     interleave.add_line(4)?;
-    Ok(interleave)
+    table.add_interleave(interleave)
 }
 
-fn hint(alloc: Global) -> R<FlushHint> {
+fn add_hint(table: &mut NFIT, alloc: Global) -> R<()> {
     let mut hint = FlushHint::new(alloc, 7);
     hint.add_address(0x1000)?;
     hint.add_address(0x2000)?;
-    Ok(hint)
+    table.add_flush_hint(hint)
+}
+
+fn add_information(table: &mut NFIT, alloc: Global) -> R<()> {
+    table.add_smbios_information(SmbiosInformation::new(alloc, &[1, 2, 3, 4])?)
 }
 
 fn range() -> SpaRange {
@@ -158,9 +166,9 @@ impl Grows for NFIT {
 
     fn grow(&mut self, alloc: Global, way: u8) -> R<()> {
         match way {
-            5 => self.add_interleave(interleave(alloc)?),
-            6 => self.add_flush_hint(hint(alloc)?),
-            7 => self.add_smbios_information(SmbiosInformation::new(alloc, &[1, 2, 3, 4])?),
+            5 => add_interleave(self, alloc),
+            6 => add_hint(self, alloc),
+            7 => add_information(self, alloc),
             _ => add_record(self, way),
         }
     }
