@@ -22,7 +22,7 @@ END_SEVERAL = "<!-- end of rules on several tables -->\n"
 NAMES = {"Differs": "unique", "Apart": "overlap", "Disjoint": "disjoint", "AtMost": "at-most", "Addresses": "no-overflow"}
 NAMES.update({"Counts": "count", "Agrees": "pair", "Needed": "required", "Needs": "needs", "Between": "range"})
 NAMES.update({"Multiple": "multiple", "Points": "reference", "Refers": "reference", "Ends": "cycle", "Distances": "distance"})
-NAMES.update({"Includes": "present"})
+NAMES.update({"Includes": "present", "NotAll": "not-all"})
 
 
 def stop(why):
@@ -142,6 +142,8 @@ def demand(text, named):
         return between(number(arguments[0]), number(arguments[1]))
     if kind == "Multiple":
         return f"is a multiple of {number(arguments[0])}"
+    if kind == "NotAll":
+        return f"doesn't have all of the bits {number(arguments[0]):#x}"
     if kind == "Points":
         return f"is zero, or the offset of a structure of {types(arguments[0].strip('&[]').split(', '))}"
     if kind == "Refers":

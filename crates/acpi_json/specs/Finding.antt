@@ -9,7 +9,7 @@ use Rattle.acpi_rules.specs.Line.{severity, rule_name}
 use Rattle.acpi_rules.specs.declared.finding.Rule.{Rule}
 use Rattle.acpi_rules.specs.declared.finding.Rule.TheVariants.{ReservedBytes, ReservedBits, ReservedValue, StructureLength, Range}
 use Rattle.acpi_rules.specs.declared.finding.Rule.TheVariants.{Unique, Overlap, Disjoint, AtMost, Count, Pair}
-use Rattle.acpi_rules.specs.declared.finding.Rule.TheVariants.{Cycle, Distance, Multiple, Below, Single, Copy}
+use Rattle.acpi_rules.specs.declared.finding.Rule.TheVariants.{Cycle, Distance, Multiple, NotAll, Below, Single, Copy}
 
 -- a number of eight bytes
 unfoldable pub word : ℕ → List ℕ
@@ -43,8 +43,8 @@ relates rule n other = other_member other ++ other_number rule n
 
 -- The members that say what a rule allows, or what is wrong with the value: the bits or the number that is reserved; the numbers
 -- that are allowed; the offset of the part with the same number; how many bytes there are for entries; the number of which the
--- value isn't a multiple; how many tables there are; the other field and what it has. Reserved bytes that aren't zero have none,
--- nor has a circle.
+-- value isn't a multiple; the bits of which one has to be zero; how many tables there are; the other field and what it has.
+-- Reserved bytes that aren't zero have none, nor has a circle.
 unfoldable pub said : Rule → ℕ → ℕ → List ℕ → List ℕ
 said ReservedBytes n most other = []
 said Cycle n most other = []
@@ -56,6 +56,7 @@ said Distance n most other = range n most
 said Unique n most other = member (codes ",\"also_at\":") n
 said Count n most other = member (codes ",\"bytes\":") most
 said Multiple n most other = member (codes ",\"multiple_of\":") n
+said NotAll n most other = member (codes ",\"bits\":") n
 said Single n most other = member (codes ",\"tables\":") n
 said Copy n most other = member (codes ",\"tables\":") n
 said rule n most other = relates rule n other

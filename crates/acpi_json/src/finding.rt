@@ -86,6 +86,7 @@ fn push_said(
         Rule::Unique => push_member(b",\"also_at\":", number, text),
         Rule::Count => push_member(b",\"bytes\":", most, text),
         Rule::Multiple => push_member(b",\"multiple_of\":", number, text),
+        Rule::NotAll => push_member(b",\"bits\":", number, text),
         Rule::Single | Rule::Copy => push_member(b",\"tables\":", number, text),
         _ => push_relates(rule, number, other, text),
     }

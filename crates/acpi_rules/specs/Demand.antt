@@ -29,6 +29,7 @@ spot_by s = record { offset = s.offset; width = s.width; name = s.name.now }
 -- - needs: it is zero, or another field of its part isn't;
 -- - between: it is from one number to another;
 -- - multiple: it is a multiple of a number;
+-- - not_all: the bits of a mask aren't all set in it;
 -- - points: it is zero, or the offset of a structure of one of these types;
 -- - refers: it is zero, or the number in this field of a structure of this type;
 -- - ends: parts of which each has the offset of the next one there come to an end;
@@ -46,6 +47,7 @@ pub data Demand : Type 0 where
   needs : Spot → Demand
   between : ℕ → ℕ → Demand
   multiple : ℕ → Demand
+  not_all : ℕ → Demand
   points : List ℕ → Demand
   refers : ℕ → Spot → Demand
   ends : Demand
@@ -64,6 +66,7 @@ demand_by (demands.Needed other) = needed (spot_by other)
 demand_by (demands.Needs other) = needs (spot_by other)
 demand_by (demands.Between from to) = between from to
 demand_by (demands.Multiple unit) = multiple unit
+demand_by (demands.NotAll mask) = not_all mask
 demand_by (demands.Points types) = points types.now
 demand_by (demands.Refers kind spot) = refers kind (spot_by spot)
 demand_by demands.Ends = ends

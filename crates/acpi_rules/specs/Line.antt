@@ -10,7 +10,7 @@ use Rattle.acpi_rules.specs.Finding.{Finding}
 use Rattle.acpi_rules.specs.declared.finding.Rule.{Rule}
 use Rattle.acpi_rules.specs.declared.finding.Rule.TheVariants.{ReservedBytes, ReservedBits, ReservedValue, StructureLength, Range}
 use Rattle.acpi_rules.specs.declared.finding.Rule.TheVariants.{Unique, Overlap, Disjoint, AtMost, NoOverflow, Count, Pair}
-use Rattle.acpi_rules.specs.declared.finding.Rule.TheVariants.{Required, Needs, Multiple, Reference, Cycle, Distance}
+use Rattle.acpi_rules.specs.declared.finding.Rule.TheVariants.{Required, Needs, Multiple, NotAll, Reference, Cycle, Distance}
 use Rattle.acpi_rules.specs.declared.finding.Rule.TheVariants.{Present, Defined, Below, Single, Copy}
 
 -- the tables that ACPI 6.5 defines; another standard defines each other table
@@ -49,6 +49,7 @@ rule_name Pair = codes "pair"
 rule_name Required = codes "required"
 rule_name Needs = codes "needs"
 rule_name Multiple = codes "multiple"
+rule_name NotAll = codes "not-all"
 rule_name Reference = codes "reference"
 rule_name Cycle = codes "cycle"
 rule_name Distance = codes "distance"
@@ -96,6 +97,10 @@ room_text room = misfit_text ++ decimal room ++ bytes_text
 unfoldable pub target_text : List ℕ
 target_text = codes " of a structure to which it may refer"
 
+-- the bits of which one has to be zero
+abbrev pub not_all_text : ℕ → List ℕ
+not_all_text bits = codes " has to lack one of the bits " ++ hex_text bits
+
 -- what a finding on two fields says of the bytes of its field
 abbrev pub pair_text : Rule → ℕ → ℕ → List ℕ → List ℕ
 pair_text Pair number most other = codes " isn't " ++ label other ++ codes ", which is " ++ decimal number
@@ -138,6 +143,7 @@ relates_text Disjoint number most other =
     codes " with " ++ label other ++ codes ": also at " ++ decimal number
 relates_text Count number most other = room_text most
 relates_text Multiple number most other = codes " isn't n * " ++ decimal number
+relates_text NotAll number most other = not_all_text number
 relates_text Reference number most other = codes " isn't the " ++ label other ++ target_text
 relates_text Cycle number most other = codes " leads to a circle"
 relates_text Present number most other = absent_text other

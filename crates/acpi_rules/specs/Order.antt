@@ -1,12 +1,14 @@
--- The rules on numbers of one part of a table: `at-most`, `no-overflow`, `count`, `pair`, `required`, `needs`, `range` and
--- `multiple`.
-use Rattle.std.specs.Prelude.{ℕ, ◌+◌, ◌-◌, ◌*◌, ◌%◌, ◌^◌, ◌==◌, nat_le, nat_lt, ◌&&◌, ◌||◌, not, if◌then◌else◌, List, [], length}
-use Rattle.acpi_rules.specs.Demand.{Spot, Demand, at_most, addresses, counts, agrees, needed, needs, between, multiple}
+-- The rules on numbers of one part of a table: `at-most`, `no-overflow`, `count`, `pair`, `required`, `needs`, `range`, `multiple`
+-- and `not-all`.
+use Rattle.std.specs.Prelude.{ℕ, ◌+◌, ◌-◌, ◌*◌, ◌%◌, ◌^◌, ◌==◌, nat_le, nat_lt, ◌&&◌, ◌||◌, not, if◌then◌else◌}
+use Rattle.std.specs.Prelude.{bit_and, List, [], length}
+use Rattle.acpi_rules.specs.Demand.{Spot, Demand, at_most, addresses, counts, agrees, needed, needs, between, multiple, not_all}
 use Rattle.acpi_rules.specs.Finding.{Finding}
 use Rattle.acpi_rules.specs.Item.{Item, has, number_in}
 use Rattle.acpi_rules.specs.Related.{relates}
 use Rattle.acpi_rules.specs.Rules.{number_of}
 use Rattle.acpi_rules.specs.declared.finding.Rule.TheVariants.{AtMost, NoOverflow, Count, Pair, Required, Needs, Range, Multiple}
+use Rattle.acpi_rules.specs.declared.finding.Rule.TheVariants.{NotAll}
 
 -- A number isn't greater than that of another field.
 abbrev pub order_findings : List ℕ → Spot → Item → List Finding
@@ -55,6 +57,11 @@ abbrev pub multiple_findings : List ℕ → ℕ → Item → List Finding
 multiple_findings section unit item =
     if number_of item.field % unit == 0 then [] else relates Multiple section unit 0 [] item.field
 
+-- The bits of a mask aren't all set in a number.
+abbrev pub not_all_findings : List ℕ → ℕ → Item → List Finding
+not_all_findings section mask item =
+    if bit_and (number_of item.field) mask == mask then relates NotAll section mask 0 [] item.field else []
+
 abbrev pub number_findings : Demand → List ℕ → Item → List Finding
 number_findings (at_most other) section item = order_findings section other item
 number_findings (addresses size) section item = address_findings section size item
@@ -64,4 +71,5 @@ number_findings (needed other) section item = needed_findings section other item
 number_findings (needs other) section item = needs_findings section other item
 number_findings (between from to) section item = between_findings section from to item
 number_findings (multiple unit) section item = multiple_findings section unit item
+number_findings (not_all mask) section item = not_all_findings section mask item
 number_findings demand section item = []

@@ -11,7 +11,7 @@ use Rattle.acpi_rules.specs.declared.demand.Of.TheVariants.{Whole, Each, Kind, E
 use Rattle.acpi_rules.specs.declared.demand.When.{When}
 use Rattle.acpi_rules.specs.declared.demand.When.TheVariants.{Always, Is, Not}
 use Rattle.acpi_rules.specs.Demand.{Spot, Demand, Relation, differs, apart, disjoint, at_most, addresses, counts, agrees, needed}
-use Rattle.acpi_rules.specs.Demand.{needs, between, multiple, points, refers, ends, distances, includes}
+use Rattle.acpi_rules.specs.Demand.{needs, between, multiple, not_all, points, refers, ends, distances, includes}
 use Rattle.acpi_rules.specs.Field.{table_fields}
 use Rattle.acpi_rules.specs.Finding.{Finding}
 use Rattle.acpi_rules.specs.Relation.{relations_findings}
@@ -296,7 +296,7 @@ paired =
     ∷ rule "FACP" Whole (Is (DWord 112) 0x100000 0) (spot 76 4 "PM_TMR_BLK") (needs (spot 91 1 "PM_TMR_LEN")) "ACPI 6.5, 5.2.9"
     ∷ []
 
--- Fields that are multiples of numbers.
+-- Fields that are multiples of numbers, or that have bits of which one is zero.
 unfoldable pub aligned : List Relation
 aligned =
     rule "FACP" Whole Always (spot 36 4 "FIRMWARE_CTRL") (multiple 64) "ACPI 6.5, 5.2.10"
@@ -313,6 +313,12 @@ aligned =
     "Arm DEN0049E.d"
     ∷ rule "APIC" (Kind 16) Always (spot 8 8 "MailBoxAddress") (multiple 4096) "ACPI 6.5, 5.2.12.19"
     ∷ rule "MCFG" Each Always (spot 0 8 "Base Address") (multiple 0x100000) "PCI Firmware 3.3, 4.1.2"
+    -- An enabled processor isn't Online Capable.
+    ∷ rule "APIC" (Kind 0) Always (spot 4 4 "Flags") (not_all 3) "ACPI 6.5, 5.2.12.2"
+    ∷ rule "APIC" (Kind 7) Always (spot 8 4 "Flags") (not_all 3) "ACPI 6.5, 5.2.12.10"
+    ∷ rule "APIC" (Kind 9) Always (spot 8 4 "Flags") (not_all 3) "ACPI 6.5, 5.2.12.12"
+    ∷ rule "APIC" (Kind 11) Always (spot 12 4 "Flags") (not_all 9) "ACPI 6.5, 5.2.12.14"
+    ∷ rule "APIC" (Kind 24) Always (spot 4 4 "Flags") (not_all 3) "ACPI 6.6, 5.2.12"
     ∷ []
 
 -- Fields whose range depends on other fields, or on the type of a structure.
@@ -328,8 +334,6 @@ bounded =
     ∷ rule "ECDT" Whole Always (spot 48 1 "Address Space ID") (between 0 1) "ACPI 6.5, 5.2.15"
     ∷ rule "HPET" Whole Always (spot 40 1 "Address Space ID") (between 0 1) "IA-PC HPET 1.0a, 3.2.4"
     ∷ rule "BGRT" Whole Always (spot 36 2 "Version") (between 1 1) "ACPI 6.5, 5.2.23"
-    ∷ rule "APIC" (Kind 0) (Is (DWord 4) 3 3) (spot 4 4 "Flags") (between 1 1) "ACPI 6.5, 5.2.12.2"
-    ∷ rule "APIC" (Kind 9) (Is (DWord 8) 3 3) (spot 8 4 "Flags") (between 1 1) "ACPI 6.5, 5.2.12.12"
     ∷ rule "APIC" (Kind 4) Always (spot 5 1 "Local APIC LINT#") (between 0 1) "ACPI 6.5, 5.2.12.7"
     ∷ rule "APIC" (Kind 10) Always (spot 8 1 "Local x2APIC LINT#") (between 0 1) "ACPI 6.5, 5.2.12.13"
     ∷ rule "PPTT" (Kind 1) (Is (DWord 4) 128 128) (spot 24 4 "Cache ID") (between 1 0xffffffff) "ACPI 6.5, 5.2.30.2"

@@ -46,6 +46,7 @@ fn clash(demand: &Demand, a: &Item<'_>, b: &Item<'_>) -> bool
         | Demand::Needs(_)
         | Demand::Between(_, _)
         | Demand::Multiple(_)
+        | Demand::NotAll(_)
         | Demand::Points(_)
         | Demand::Refers(_, _)
         | Demand::Ends

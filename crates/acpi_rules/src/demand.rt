@@ -75,6 +75,8 @@ pub enum Demand {
     Between(u64, u64),
     /// The field is a multiple of this number.
     Multiple(u64),
+    /// The bits of this mask aren't all set in the field.
+    NotAll(u64),
     /// The field is zero, or the offset of a structure of one of these types.
     Points(&'static [usize]),
     /// The field is zero, or the number in this one of a structure of this type.

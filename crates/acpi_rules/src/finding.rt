@@ -34,6 +34,8 @@ pub enum Rule {
     Needs,
     /// A number is a multiple of another. The number is the other one.
     Multiple,
+    /// Some bits aren't all set. The number has these bits.
+    NotAll,
     /// A number is the offset of a structure of a type, or that of a field of one.
     Reference,
     /// Structures of which each names the next one come to an end.

@@ -3,7 +3,7 @@
 ghost use Rattle.std.specs.Prelude.{◌≡◌, ◌++◌, OnOk, string_bytes};
 ghost use Rattle.acpi_rules.specs.Finding.{noted};
 ghost use Rattle.acpi_rules.specs.Line.{standard_tables, contains, severity, rule_name, hex_text, one_text, least_text};
-ghost use Rattle.acpi_rules.specs.Line.{misfit_text, bytes_text, room_text, target_text};
+ghost use Rattle.acpi_rules.specs.Line.{misfit_text, bytes_text, room_text, target_text, not_all_text};
 ghost use Rattle.acpi_rules.specs.Line.{reserved_text, range_text, pair_text, own_text, below_text, limit_text};
 ghost use Rattle.acpi_rules.specs.Line.{machine_text, tables_text, absent_text, relates_text};
 ghost use Rattle.acpi_rules.specs.Line.{says, field_text, source_text, finding_text};
@@ -76,6 +76,7 @@ impl Rule {
             Rule::Required => "required",
             Rule::Needs => "needs",
             Rule::Multiple => "multiple",
+            Rule::NotAll => "not-all",
             Rule::Reference => "reference",
             Rule::Cycle => "cycle",
             Rule::Distance => "distance",
@@ -159,6 +160,14 @@ fn push_target(text: &mut String) -> Result<(), AllocError>
     ensures { OnOk result (string_bytes text.new ≡ string_bytes text.old ++ target_text) }
 {
     text.push_str(" of a structure to which it may refer")
+}
+
+// Adds the bits of which one has to be zero.
+fn push_not_all(bits: u64, text: &mut String) -> Result<(), AllocError>
+    ensures { OnOk result (string_bytes text.new ≡ string_bytes text.old ++ not_all_text bits) }
+{
+    text.push_str(" has to lack one of the bits ")?;
+    push_hex(bits, text)
 }
 
 // Adds that a number is reserved.
@@ -295,6 +304,7 @@ fn push_relates(
             text.push_str(" isn't n * ")?;
             text.push_str(Buffer::new().format(number))
         }
+        Rule::NotAll => push_not_all(number, text),
         Rule::Reference => {
             text.push_str(" isn't the ")?;
             push_label(other, text)?;

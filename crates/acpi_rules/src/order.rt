@@ -6,7 +6,7 @@ ghost use Rattle.acpi_rules.specs.Demand.{spot_by, demand_by};
 ghost use Rattle.acpi_rules.specs.Finding.{noted};
 ghost use Rattle.acpi_rules.specs.Item.{item_by};
 ghost use Rattle.acpi_rules.specs.Order.{order_findings, address_findings, count_findings, pair_findings, needed_findings};
-ghost use Rattle.acpi_rules.specs.Order.{needs_findings, between_findings, multiple_findings, number_findings};
+ghost use Rattle.acpi_rules.specs.Order.{needs_findings, between_findings, multiple_findings, not_all_findings, number_findings};
 
 use crate::demand::{Demand, Spot};
 use crate::finding::{Finding, Rule};
@@ -229,6 +229,28 @@ fn check_multiple<'a>(
     add_related(Rule::Multiple, &said, &item.field, findings)
 }
 
+// Adds that a number has all bits of a mask.
+fn check_not_all<'a>(
+    section: &'static str,
+    mask: u64,
+    item: &Item<'a>,
+    findings: &mut Vec<Finding<'a>>,
+) -> Result<(), AllocError>
+    ensures { OnOk result (map noted findings.new.items ≡ map noted findings.old.items
+        ++ not_all_findings section.now mask (item_by item.now)) }
+{
+    if number_of(&item.field) & mask == mask {
+        let said = Said {
+            section,
+            number: mask,
+            most: 0,
+            other: "",
+        };
+        return add_related(Rule::NotAll, &said, &item.field, findings);
+    }
+    Ok(())
+}
+
 // Adds what a part breaks of a demand on its numbers.
 fn check_numbers<'a>(
     demand: &Demand,
@@ -248,6 +270,7 @@ fn check_numbers<'a>(
         Demand::Needs(other) => check_needs(section, &other, item, findings),
         Demand::Between(from, to) => check_between(section, from, to, item, findings),
         Demand::Multiple(unit) => check_multiple(section, unit, item, findings),
+        Demand::NotAll(mask) => check_not_all(section, mask, item, findings),
         Demand::Differs
         | Demand::Apart(_, _)
         | Demand::Disjoint(_)

@@ -51,7 +51,8 @@ fn check_demand<'a>(
         | Demand::Needed(_)
         | Demand::Needs(_)
         | Demand::Between(_, _)
-        | Demand::Multiple(_) => check_each(demand, section, items, findings),
+        | Demand::Multiple(_)
+        | Demand::NotAll(_) => check_each(demand, section, items, findings),
     }
 }
 

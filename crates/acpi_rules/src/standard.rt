@@ -11,7 +11,7 @@ ghost use Rattle.acpi_rules.specs.Standard.{bounded, referred, placed, included,
 use crate::allowed::Allowed;
 use crate::demand::Demand::{
     Addresses, Agrees, Apart, AtMost, Between, Counts, Differs, Disjoint, Distances, Ends,
-    Includes, Multiple, Needed, Needs, Points, Refers,
+    Includes, Multiple, Needed, Needs, NotAll, Points, Refers,
 };
 use crate::demand::Of::{Each, Entries, Kind, Whole};
 use crate::demand::When::{Always, Is, Not};
@@ -390,9 +390,9 @@ const PAIRED: [Relation; 19] = [
         "ACPI 6.5, 5.2.9"),
 ];
 
-// Fields that are multiples of numbers.
+// Fields that are multiples of numbers, or that have bits of which one is zero.
 #[rattlefmt::skip]
-const ALIGNED: [Relation; 12] = [
+const ALIGNED: [Relation; 17] = [
     rule!("FACP", Whole, Always, spot!(36, 4, "FIRMWARE_CTRL"), Multiple(64), "ACPI 6.5, 5.2.10"),
     rule!("FACP", Whole, Always, spot!(132, 8, "X_FIRMWARE_CTRL"), Multiple(64), "ACPI 6.5, 5.2.10"),
     rule!("FACP", Whole, Is(DWord(112), 0x10_0000, 0), spot!(92, 1, "GPE0_BLK_LEN"), Multiple(2), "ACPI 6.5, 5.2.9"),
@@ -407,11 +407,17 @@ const ALIGNED: [Relation; 12] = [
         Multiple(0x1_0000), "Arm DEN0049E.d"),
     rule!("APIC", Kind(16), Always, spot!(8, 8, "MailBoxAddress"), Multiple(4096), "ACPI 6.5, 5.2.12.19"),
     rule!("MCFG", Each, Always, spot!(0, 8, "Base Address"), Multiple(0x10_0000), "PCI Firmware 3.3, 4.1.2"),
+    // An enabled processor isn't Online Capable.
+    rule!("APIC", Kind(0), Always, spot!(4, 4, "Flags"), NotAll(3), "ACPI 6.5, 5.2.12.2"),
+    rule!("APIC", Kind(7), Always, spot!(8, 4, "Flags"), NotAll(3), "ACPI 6.5, 5.2.12.10"),
+    rule!("APIC", Kind(9), Always, spot!(8, 4, "Flags"), NotAll(3), "ACPI 6.5, 5.2.12.12"),
+    rule!("APIC", Kind(11), Always, spot!(12, 4, "Flags"), NotAll(9), "ACPI 6.5, 5.2.12.14"),
+    rule!("APIC", Kind(24), Always, spot!(4, 4, "Flags"), NotAll(3), "ACPI 6.6, 5.2.12"),
 ];
 
 // Ranges of fields at an offset of a table or of a structure. Some depend on other fields.
 #[rattlefmt::skip]
-const BOUNDED: [Relation; 28] = [
+const BOUNDED: [Relation; 26] = [
     rule!("FACP", Whole, Is(DWord(112), 1024, 1024), spot!(116, 1, "Address Space ID"), Between(0, 2), "ACPI 6.5, 5.2.9"),
     rule!("FACP", Whole, Is(DWord(112), 1024, 1024), spot!(117, 1, "Register Bit Width"), Between(8, 8), "ACPI 6.5, 5.2.9"),
     rule!("FACP", Whole, Is(DWord(112), 1024, 1024), spot!(118, 1, "Register Bit Offset"), Between(0, 0), "ACPI 6.5, 5.2.9"),
@@ -424,9 +430,6 @@ const BOUNDED: [Relation; 28] = [
     rule!("ECDT", Whole, Always, spot!(48, 1, "Address Space ID"), Between(0, 1), "ACPI 6.5, 5.2.15"),
     rule!("HPET", Whole, Always, spot!(40, 1, "Address Space ID"), Between(0, 1), "IA-PC HPET 1.0a, 3.2.4"),
     rule!("BGRT", Whole, Always, spot!(36, 2, "Version"), Between(1, 1), "ACPI 6.5, 5.2.23"),
-    // A processor is enabled, or can be online later, but not both.
-    rule!("APIC", Kind(0), Is(DWord(4), 3, 3), spot!(4, 4, "Flags"), Between(1, 1), "ACPI 6.5, 5.2.12.2"),
-    rule!("APIC", Kind(9), Is(DWord(8), 3, 3), spot!(8, 4, "Flags"), Between(1, 1), "ACPI 6.5, 5.2.12.12"),
     rule!("APIC", Kind(4), Always, spot!(5, 1, "Local APIC LINT#"), Between(0, 1), "ACPI 6.5, 5.2.12.7"),
     rule!("APIC", Kind(10), Always, spot!(8, 1, "Local x2APIC LINT#"), Between(0, 1), "ACPI 6.5, 5.2.12.13"),
     rule!("PPTT", Kind(1), Is(DWord(4), 128, 128), spot!(24, 4, "Cache ID"), Between(1, 0xffff_ffff), "ACPI 6.5, 5.2.30.2"),
