@@ -22,7 +22,7 @@ END_SEVERAL = "<!-- end of rules on several tables -->\n"
 NAMES = {"Differs": "unique", "Apart": "overlap", "Disjoint": "disjoint", "AtMost": "at-most", "Addresses": "no-overflow"}
 NAMES.update({"Counts": "count", "Agrees": "pair", "Needed": "required", "Needs": "needs", "Between": "range"})
 NAMES.update({"Multiple": "multiple", "Points": "reference", "Refers": "reference", "Ends": "cycle", "Distances": "distance"})
-NAMES.update({"Includes": "present", "NotAll": "not-all"})
+NAMES.update({"Includes": "present", "NotAll": "not-all", "Inside": "inside"})
 
 
 def stop(why):
@@ -129,6 +129,8 @@ def demand(text, named):
         return f"isn't greater than {spot(arguments[0])[2]}"
     if kind == "Addresses":
         return f"ends before 2^64 with {spot(arguments[0])[2]}"
+    if kind == "Inside":
+        return f"as many bytes as {spot(arguments[0])[2]} says, which begin at this offset, stand in the structure or the table"
     if kind == "Counts":
         each = "one byte" if arguments[1] == "1" else f"{arguments[1]} bytes"
         return f"is at most the number of entries of {each} for which there is space from offset {arguments[0]} on"

@@ -8,7 +8,7 @@ use Rattle.acpi_rules.specs.Finding.{Finding}
 use Rattle.acpi_rules.specs.Line.{severity, rule_name}
 use Rattle.acpi_rules.specs.declared.finding.Rule.{Rule}
 use Rattle.acpi_rules.specs.declared.finding.Rule.TheVariants.{ReservedBytes, ReservedBits, ReservedValue, StructureLength, Range}
-use Rattle.acpi_rules.specs.declared.finding.Rule.TheVariants.{Unique, Overlap, Disjoint, AtMost, Count, Pair}
+use Rattle.acpi_rules.specs.declared.finding.Rule.TheVariants.{Unique, Overlap, Disjoint, AtMost, Inside, Count, Pair}
 use Rattle.acpi_rules.specs.declared.finding.Rule.TheVariants.{Cycle, Distance, Multiple, NotAll, Below, Single, Copy}
 
 -- a number of eight bytes
@@ -41,6 +41,10 @@ other_number rule n = []
 abbrev pub relates : Rule → ℕ → List ℕ → List ℕ
 relates rule n other = other_member other ++ other_number rule n
 
+-- the members of a rule on bytes that begin at an offset: the field with their number, and how many bytes there are
+abbrev pub inside : ℕ → List ℕ → List ℕ
+inside bytes other = other_member other ++ member (codes ",\"bytes\":") bytes
+
 -- The members that say what a rule allows, or what is wrong with the value: the bits or the number that is reserved; the numbers
 -- that are allowed; the offset of the part with the same number; how many bytes there are for entries; the number of which the
 -- value isn't a multiple; the bits of which one has to be zero; how many tables there are; the other field and what it has.
@@ -54,6 +58,7 @@ said StructureLength n most other = range n n
 said Range n most other = range n most
 said Distance n most other = range n most
 said Unique n most other = member (codes ",\"also_at\":") n
+said Inside n most other = inside most other
 said Count n most other = member (codes ",\"bytes\":") most
 said Multiple n most other = member (codes ",\"multiple_of\":") n
 said NotAll n most other = member (codes ",\"bits\":") n

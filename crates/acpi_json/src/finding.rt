@@ -1,8 +1,8 @@
 //! Rules that tables break, as objects. A function whose name begins with `push` adds to a text.
 
 ghost use Rattle.std.specs.Prelude.{◌≡◌, ◌++◌, OnOk};
-ghost use Rattle.acpi_json.specs.Finding.{word, member, range, other_member, other_number, relates, said, rule_member};
-ghost use Rattle.acpi_json.specs.Finding.{section_member, place, table};
+ghost use Rattle.acpi_json.specs.Finding.{word, member, range, other_member, other_number, relates, inside, said};
+ghost use Rattle.acpi_json.specs.Finding.{rule_member, section_member, place, table};
 ghost use Rattle.acpi_json.specs.Finding.{finding as object};
 ghost use Rattle.acpi_rules.specs.Finding.{noted};
 
@@ -84,12 +84,21 @@ fn push_said(
         Rule::Range => push_range(number, most, text),
         Rule::Distance => push_range(number, most, text),
         Rule::Unique => push_member(b",\"also_at\":", number, text),
+        Rule::Inside => push_inside(most, other, text),
         Rule::Count => push_member(b",\"bytes\":", most, text),
         Rule::Multiple => push_member(b",\"multiple_of\":", number, text),
         Rule::NotAll => push_member(b",\"bits\":", number, text),
         Rule::Single | Rule::Copy => push_member(b",\"tables\":", number, text),
         _ => push_relates(rule, number, other, text),
     }
+}
+
+// Adds the members of a rule on bytes that begin at an offset.
+fn push_inside(bytes: u64, other: &str, text: &mut Vec<u8>) -> Result<(), AllocError>
+    ensures { OnOk result (text.new.items ≡ text.old.items ++ inside bytes other.now) }
+{
+    push_other(other, text)?;
+    push_member(b",\"bytes\":", bytes, text)
 }
 
 // Adds the member with the name of a rule.

@@ -23,6 +23,7 @@ spot_by s = record { offset = s.offset; width = s.width; name = s.name.now }
 --   part;
 -- - at_most: it isn't greater than another field of its part;
 -- - addresses: a range that begins there, and as long as another field says, ends before 2^64;
+-- - inside: as many bytes as another field says, which begin at the offset that it has, stand in its part;
 -- - counts: as many entries of this size as it says stand between this offset and the part's end;
 -- - agrees: it is the number in another field of its part, unless one of them is zero;
 -- - needed: it isn't zero, or another field of its part isn't;
@@ -41,6 +42,7 @@ pub data Demand : Type 0 where
   disjoint : Spot → Demand
   at_most : Spot → Demand
   addresses : Spot → Demand
+  inside : Spot → Demand
   counts : ℕ → ℕ → Demand
   agrees : Spot → Demand
   needed : Spot → Demand
@@ -60,6 +62,7 @@ demand_by (demands.Apart group last) = apart (spot_by group) (spot_by last)
 demand_by (demands.Disjoint size) = disjoint (spot_by size)
 demand_by (demands.AtMost other) = at_most (spot_by other)
 demand_by (demands.Addresses size) = addresses (spot_by size)
+demand_by (demands.Inside size) = inside (spot_by size)
 demand_by (demands.Counts start size) = counts start size
 demand_by (demands.Agrees other) = agrees (spot_by other)
 demand_by (demands.Needed other) = needed (spot_by other)

@@ -9,7 +9,7 @@ use Rattle.acpi_text.specs.Note.{trimmed}
 use Rattle.acpi_rules.specs.Finding.{Finding}
 use Rattle.acpi_rules.specs.declared.finding.Rule.{Rule}
 use Rattle.acpi_rules.specs.declared.finding.Rule.TheVariants.{ReservedBytes, ReservedBits, ReservedValue, StructureLength, Range}
-use Rattle.acpi_rules.specs.declared.finding.Rule.TheVariants.{Unique, Overlap, Disjoint, AtMost, NoOverflow, Count, Pair}
+use Rattle.acpi_rules.specs.declared.finding.Rule.TheVariants.{Unique, Overlap, Disjoint, AtMost, NoOverflow, Inside, Count, Pair}
 use Rattle.acpi_rules.specs.declared.finding.Rule.TheVariants.{Required, Needs, Multiple, NotAll, Reference, Cycle, Distance}
 use Rattle.acpi_rules.specs.declared.finding.Rule.TheVariants.{Present, Defined, Below, Single, Copy}
 
@@ -44,6 +44,7 @@ rule_name Overlap = codes "overlap"
 rule_name Disjoint = codes "disjoint"
 rule_name AtMost = codes "at-most"
 rule_name NoOverflow = codes "no-overflow"
+rule_name Inside = codes "inside"
 rule_name Count = codes "count"
 rule_name Pair = codes "pair"
 rule_name Required = codes "required"
@@ -93,6 +94,18 @@ bytes_text = codes " bytes that are there"
 abbrev pub room_text : ℕ → List ℕ
 room_text room = misfit_text ++ decimal room ++ bytes_text
 
+-- the other field that says how many bytes begin at an offset
+unfoldable pub with_text : List ℕ → List ℕ
+with_text other = codes " with " ++ label other
+
+-- the words before the number of bytes after which they end
+unfoldable pub after_text : List ℕ
+after_text = codes " ends after the "
+
+-- that bytes at an offset, as many as another field says, end after this many
+abbrev pub outside_text : ℕ → List ℕ → List ℕ
+outside_text room other = with_text other ++ after_text ++ decimal room ++ bytes_text
+
 -- of which structures a reference isn't the number
 unfoldable pub target_text : List ℕ
 target_text = codes " of a structure to which it may refer"
@@ -141,6 +154,7 @@ relates_text Overlap number most other =
     codes " up to " ++ label other ++ codes ": also at " ++ decimal number
 relates_text Disjoint number most other =
     codes " with " ++ label other ++ codes ": also at " ++ decimal number
+relates_text Inside number most other = outside_text most other
 relates_text Count number most other = room_text most
 relates_text Multiple number most other = codes " isn't n * " ++ decimal number
 relates_text NotAll number most other = not_all_text number

@@ -1,14 +1,15 @@
--- The rules on numbers of one part of a table: `at-most`, `no-overflow`, `count`, `pair`, `required`, `needs`, `range`, `multiple`
--- and `not-all`.
+-- The rules on numbers of one part of a table: `at-most`, `no-overflow`, `inside`, `count`, `pair`, `required`, `needs`, `range`,
+-- `multiple` and `not-all`.
 use Rattle.std.specs.Prelude.{ℕ, ◌+◌, ◌-◌, ◌*◌, ◌%◌, ◌^◌, ◌==◌, nat_le, nat_lt, ◌&&◌, ◌||◌, not, if◌then◌else◌}
 use Rattle.std.specs.Prelude.{bit_and, List, [], length}
-use Rattle.acpi_rules.specs.Demand.{Spot, Demand, at_most, addresses, counts, agrees, needed, needs, between, multiple, not_all}
+use Rattle.acpi_rules.specs.Demand.{Spot, Demand, at_most, addresses, inside, counts, agrees, needed, needs, between}
+use Rattle.acpi_rules.specs.Demand.{multiple, not_all}
 use Rattle.acpi_rules.specs.Finding.{Finding}
 use Rattle.acpi_rules.specs.Item.{Item, has, number_in}
 use Rattle.acpi_rules.specs.Related.{relates}
 use Rattle.acpi_rules.specs.Rules.{number_of}
-use Rattle.acpi_rules.specs.declared.finding.Rule.TheVariants.{AtMost, NoOverflow, Count, Pair, Required, Needs, Range, Multiple}
-use Rattle.acpi_rules.specs.declared.finding.Rule.TheVariants.{NotAll}
+use Rattle.acpi_rules.specs.declared.finding.Rule.TheVariants.{AtMost, NoOverflow, Inside, Count, Pair, Required, Needs}
+use Rattle.acpi_rules.specs.declared.finding.Rule.TheVariants.{Range, Multiple, NotAll}
 
 -- A number isn't greater than that of another field.
 abbrev pub order_findings : List ℕ → Spot → Item → List Finding
@@ -21,6 +22,12 @@ abbrev pub address_findings : List ℕ → Spot → Item → List Finding
 address_findings section size item =
     if nat_lt (number_of item.field + (number_in size item.bytes - 1)) (2 ^ 64) then []
     else relates NoOverflow section (number_in size item.bytes) 0 size.name item.field
+
+-- Bytes that begin at an offset, as many as another field says, stand in a part. No bytes have any offset.
+abbrev pub inside_findings : List ℕ → Spot → Item → List Finding
+inside_findings section size item =
+    if (number_in size item.bytes == 0) || nat_le (number_of item.field + number_in size item.bytes) (length item.bytes) then []
+    else relates Inside section (number_in size item.bytes) (length item.bytes) size.name item.field
 
 -- Entries of a size, as many as a number says, stand between an offset and the end of a part.
 abbrev pub count_findings : List ℕ → ℕ → ℕ → Item → List Finding
@@ -65,6 +72,7 @@ not_all_findings section mask item =
 abbrev pub number_findings : Demand → List ℕ → Item → List Finding
 number_findings (at_most other) section item = order_findings section other item
 number_findings (addresses size) section item = address_findings section size item
+number_findings (inside size) section item = inside_findings section size item
 number_findings (counts start size) section item = count_findings section start size item
 number_findings (agrees other) section item = pair_findings section other item
 number_findings (needed other) section item = needed_findings section other item

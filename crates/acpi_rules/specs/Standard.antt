@@ -11,7 +11,7 @@ use Rattle.acpi_rules.specs.declared.demand.Of.TheVariants.{Whole, Each, Kind, E
 use Rattle.acpi_rules.specs.declared.demand.When.{When}
 use Rattle.acpi_rules.specs.declared.demand.When.TheVariants.{Always, Is, Not}
 use Rattle.acpi_rules.specs.Demand.{Spot, Demand, Relation, differs, apart, disjoint, at_most, addresses, counts, agrees, needed}
-use Rattle.acpi_rules.specs.Demand.{needs, between, multiple, not_all, points, refers, ends, distances, includes}
+use Rattle.acpi_rules.specs.Demand.{needs, between, inside, multiple, not_all, points, refers, ends, distances, includes}
 use Rattle.acpi_rules.specs.Field.{table_fields}
 use Rattle.acpi_rules.specs.Finding.{Finding}
 use Rattle.acpi_rules.specs.Relation.{relations_findings}
@@ -20,7 +20,7 @@ use Rattle.acpi_rules.specs.Rules.{Allowed, Limit, fields_findings}
 abbrev pub allow : String → ℕ → String → ℕ → ℕ → Allowed
 allow table offset name from to = record { table = codes table; offset = offset; name = codes name; from = from; to = to }
 
--- Numbers that a form has no name for, and that aren't reserved.
+-- Numbers that are allowed, although a form has no name for them.
 abbrev pub allowed_numbers : List Allowed
 allowed_numbers =
     -- Address spaces of an OEM (ACPI 6.5, 5.2.3.2).
@@ -161,6 +161,9 @@ numbered =
     ∷ rule "APIC" (Kind 26) Always (spot 20 4 "Global System Interrupt Base") differs "ACPI 6.6, 5.2.12"
     ∷ rule "APIC" (Kind 27) Always (spot 3 1 "PLIC ID") differs "ACPI 6.6, 5.2.12"
     ∷ rule "APIC" (Kind 27) Always (spot 32 4 "Global System Interrupt Base") differs "ACPI 6.6, 5.2.12"
+    -- An address override and a distributor, of which there is one.
+    ∷ rule "APIC" (Kind 5) Always (spot 0 1 "Type") differs "ACPI 6.5, 5.2.12.8"
+    ∷ rule "APIC" (Kind 12) Always (spot 0 1 "Type") differs "ACPI 6.5, 5.2.12.15"
     -- Ranges of redistributors.
     ∷ rule "APIC" (Kind 14) Always (spot 4 8 "Discovery Range Base Address") (disjoint (spot 12 4 "Discovery Range Length"))
     "ACPI 6.5, 5.2.12.17"
@@ -185,7 +188,7 @@ different =
     ∷ rule "RSDT" Each Always (spot 0 4 "Entry") differs "ACPI 6.5, 5.2.7"
     ∷ rule "IORT" Each (Not (DWord 4) 0xffffffff 0) (spot 4 4 "Identifier") differs "Arm DEN0049E.d"
     ∷ rule "DMAR" (Kind 0) Always (spot 8 8 "Register Base Address") differs "VT-d 4.1, 8.3"
-    -- The unit that has all other devices of a segment.
+    -- A segment has one unit for all other devices.
     ∷ rule "DMAR" (Kind 0) (Is (Byte 4) 1 1) (spot 6 2 "Segment Number") differs "VT-d 4.1, 8.3"
     ∷ rule "LPIT" (Kind 0) Always (spot 8 2 "Unique ID") differs "Intel Low Power S0 Idle 1.1"
     ∷ rule "APMT" Each Always (spot 4 4 "Identifier") differs "Arm DEN0117"
@@ -198,7 +201,7 @@ ordered =
     -- Buses of a segment.
     rule "MCFG" Each Always (spot 10 1 "Start Bus Number")
     (apart (spot 8 2 "PCI Segment Group Number") (spot 11 1 "End Bus Number")) "PCI Firmware 3.3, 4.1.2"
-    -- Ranges of addresses. Memory may come into a range of a SRAT that is hot-pluggable, and has a range of its own then.
+    -- Ranges of addresses. A hot-pluggable range of a SRAT may have other ranges in it.
     ∷ rule "SRAT" (Kind 1) (Is (DWord 28) 3 1) (spot 8 8 "Base Address") (disjoint (spot 16 8 "Length")) "ACPI 6.5, 5.2.16.2"
     ∷ rule "CEDT" (Kind 0) Always (spot 16 8 "Base") (disjoint (spot 24 8 "Length")) "CXL 3.0, 9.17.1"
     ∷ rule "CEDT" (Kind 1) Always (spot 8 8 "Base HPA") (disjoint (spot 16 8 "Window Size")) "CXL 3.0, 9.17.1"
@@ -238,7 +241,7 @@ ordered =
     "TCG ACPI Specification 1.4, 8"
     ∷ []
 
--- Structures that have as many entries as they say.
+-- Structures that have as many entries as they say, and the bytes of which they have the offsets.
 unfoldable pub counted : List Relation
 counted =
     rule "PPTT" (Kind 0) Always (spot 16 4 "Number of private resources") (counts 20 4) "ACPI 6.5, 5.2.30.1"
@@ -257,6 +260,21 @@ counted =
     ∷ rule "DBG2" Each Always (spot 3 1 "NumberofGenericAddressRegisters") (counts 22 12) "Microsoft DBG2"
     ∷ rule "DBG2" Each Always (spot 4 2 "NamespaceStringLength") (counts 22 1) "Microsoft DBG2"
     ∷ rule "DBG2" Each Always (spot 8 2 "OemDataLength") (counts 22 1) "Microsoft DBG2"
+    -- A node has 32 bytes at least.
+    ∷ rule "MPST" Whole Always (spot 40 2 "Memory Power Node Count") (counts 44 32) "ACPI 6.5, 5.2.22"
+    -- Bytes at an offset.
+    ∷ rule "SDEV" (Kind 0) Always (spot 4 2 "Device Identifier Offset") (inside (spot 6 2 "Device Identifier Length"))
+    "ACPI 6.5, 5.2.27"
+    ∷ rule "SDEV" (Kind 0) Always (spot 8 2 "Vendor Specific Data Offset") (inside (spot 10 2 "Vendor Specific Data Length"))
+    "ACPI 6.5, 5.2.27"
+    ∷ rule "SDEV" (Kind 0) (Is (Byte 1) 2 2) (spot 12 2 "Secure Access Components Offset")
+    (inside (spot 14 2 "Secure Access Components Length")) "ACPI 6.5, 5.2.27"
+    ∷ rule "SDEV" (Kind 1) Always (spot 8 2 "PCI Path Offset") (inside (spot 10 2 "PCI Path Length")) "ACPI 6.5, 5.2.27"
+    ∷ rule "SDEV" (Kind 1) Always (spot 12 2 "Vendor Specific Data Offset") (inside (spot 14 2 "Vendor Specific Data Length"))
+    "ACPI 6.5, 5.2.27"
+    ∷ rule "DBG2" Each Always (spot 6 2 "NamespaceStringOffset") (inside (spot 4 2 "NamespaceStringLength")) "Microsoft DBG2"
+    ∷ rule "DBG2" Each Always (spot 10 2 "OemDataOffset") (inside (spot 8 2 "OemDataLength")) "Microsoft DBG2"
+    ∷ rule "SPCR" Whole Always (spot 86 2 "NamespaceStringOffset") (inside (spot 84 2 "NamespaceStringLength")) "Microsoft SPCR"
     -- Distances (5.2.17).
     ∷ rule "SLIT" Whole Always (spot 36 8 "Number of System Localities") (distances (spot 44 1 "Distances from a Locality"))
     "ACPI 6.5, 5.2.17"
@@ -265,8 +283,7 @@ counted =
 -- Fields of a FADT that depend on each other.
 unfoldable pub paired : List Relation
 paired =
-    -- Two fields for one address: both say the same, unless one is zero. Those of register blocks are compared if both are in
-    -- System I/O space.
+    -- Two fields have the same address, unless one is zero. Those of a register block are compared if it is in System I/O space.
     rule "FACP" Whole Always (spot 36 4 "FIRMWARE_CTRL") (agrees (spot 132 8 "X_FIRMWARE_CTRL")) "ACPI 6.5, 5.2.9"
     ∷ rule "FACP" Whole Always (spot 40 4 "DSDT") (agrees (spot 140 8 "X_DSDT")) "ACPI 6.5, 5.2.9"
     ∷ rule "FACP" Whole (Is (Byte 148) 255 1) (spot 56 4 "PM1a_EVT_BLK") (agrees (spot 152 8 "X_PM1a_EVT_BLK"))
@@ -334,6 +351,7 @@ bounded =
     ∷ rule "ECDT" Whole Always (spot 48 1 "Address Space ID") (between 0 1) "ACPI 6.5, 5.2.15"
     ∷ rule "HPET" Whole Always (spot 40 1 "Address Space ID") (between 0 1) "IA-PC HPET 1.0a, 3.2.4"
     ∷ rule "BGRT" Whole Always (spot 36 2 "Version") (between 1 1) "ACPI 6.5, 5.2.23"
+    ∷ rule "APIC" Whole Always (spot 8 1 "Revision") (between 1 255) "ACPI 6.5, 5.2.12"
     ∷ rule "APIC" (Kind 4) Always (spot 5 1 "Local APIC LINT#") (between 0 1) "ACPI 6.5, 5.2.12.7"
     ∷ rule "APIC" (Kind 10) Always (spot 8 1 "Local x2APIC LINT#") (between 0 1) "ACPI 6.5, 5.2.12.13"
     ∷ rule "PPTT" (Kind 1) (Is (DWord 4) 128 128) (spot 24 4 "Cache ID") (between 1 0xffffffff) "ACPI 6.5, 5.2.30.2"
@@ -397,7 +415,7 @@ referred =
 -- Blocks of registers and regions of memory, which have an address and a length.
 unfoldable pub placed : List Relation
 placed =
-    -- Blocks of a FADT without a length, unless the flag HW_REDUCED_ACPI is set.
+    -- A block of a FADT needs a length, unless the flag HW_REDUCED_ACPI is set.
     rule "FACP" Whole (Is (DWord 112) 0x100000 0) (spot 80 4 "GPE0_BLK") (needs (spot 92 1 "GPE0_BLK_LEN")) "ACPI 6.5, 5.2.9"
     ∷ rule "FACP" Whole (Is (DWord 112) 0x100000 0) (spot 84 4 "GPE1_BLK") (needs (spot 93 1 "GPE1_BLK_LEN")) "ACPI 6.5, 5.2.9"
     ∷ rule "FACP" Whole (Is (DWord 112) 0x100000 0) (spot 200 8 "X_PM2_CNT_BLK") (needs (spot 90 1 "PM2_CNT_LEN"))
@@ -405,7 +423,7 @@ placed =
     ∷ rule "FACP" Whole (Is (DWord 112) 0x100000 0) (spot 212 8 "X_PM_TMR_BLK") (needs (spot 91 1 "PM_TMR_LEN")) "ACPI 6.5, 5.2.9"
     ∷ rule "FACP" Whole (Is (DWord 112) 0x100000 0) (spot 224 8 "X_GPE0_BLK") (needs (spot 92 1 "GPE0_BLK_LEN")) "ACPI 6.5, 5.2.9"
     ∷ rule "FACP" Whole (Is (DWord 112) 0x100000 0) (spot 236 8 "X_GPE1_BLK") (needs (spot 93 1 "GPE1_BLK_LEN")) "ACPI 6.5, 5.2.9"
-    -- Regions of memory that have a length and an address.
+    -- A region of memory with a length needs an address.
     ∷ rule "BERT" Whole Always (spot 36 4 "Boot Error Region Length") (needs (spot 40 8 "Boot Error Region")) "ACPI 6.5, 18.3.1"
     ∷ rule "CCEL" Whole Always (spot 40 8 "Log Area Minimum Length") (needs (spot 48 8 "Log Area Start Address"))
     "ACPI 6.5, 5.2.34"
@@ -457,8 +475,8 @@ standard_findings walk bytes =
     ++ relations_findings placed walk bytes
     ++ relations_findings included walk bytes
 
--- The rules that a table breaks, by its form and its walk: those on each of its fields, in the order of their offsets, and then
--- those on several fields, in the order of the rules.
+-- The rules that a table breaks, by its form and its walk. First come those on each of its fields, in the order of their offsets.
+-- Then come those on several fields, in the order of the rules.
 abbrev pub table_findings : TableForm → Option Walk → List ℕ → List Finding
 table_findings form walk bytes =
     fields_findings allowed_numbers ranges bytes (table_fields form walk bytes) ++ standard_findings walk bytes

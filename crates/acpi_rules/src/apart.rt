@@ -40,6 +40,7 @@ fn clash(demand: &Demand, a: &Item<'_>, b: &Item<'_>) -> bool
         Demand::Disjoint(size) => reaches(&size, a, b) && reaches(&size, b, a),
         Demand::AtMost(_)
         | Demand::Addresses(_)
+        | Demand::Inside(_)
         | Demand::Counts(_, _)
         | Demand::Agrees(_)
         | Demand::Needed(_)

@@ -63,6 +63,8 @@ pub enum Demand {
     AtMost(Spot),
     /// A range that begins at the field, and is as long as this one says, ends before 2^64.
     Addresses(Spot),
+    /// As many bytes as this one says, which begin at the offset that the field has, stand in the part.
+    Inside(Spot),
     /// As many entries as the field says stand between this offset and the part's end. The second number is an entry's size.
     Counts(usize, usize),
     /// The field has the number of this one, unless one of them is zero.

@@ -24,6 +24,9 @@ pub enum Rule {
     AtMost,
     /// A range of addresses ends before 2^64. The number is the length of the range.
     NoOverflow,
+    /// As many bytes as another field says, which begin at an offset, stand in a part of a table. The number is that of the other
+    /// field, and the greatest number is how many bytes the part has.
+    Inside,
     /// As many entries as a number says stand in a part of a table. The other number is how many bytes the part has.
     Count,
     /// Two fields have the same number, unless one is zero. The number is the other field's.
@@ -69,8 +72,8 @@ pub struct Finding<'a> {
     pub bytes: &'a [u8],
     /// The number of which the rule speaks, or 0 if it speaks of none.
     pub number: u64,
-    /// For a range or a distance, the greatest number that is allowed. For `Count`, how many bytes the part has. For `Below`, the
-    /// number in the field. For any other rule, 0.
+    /// For a range or a distance, the greatest number that is allowed. For `Inside` and `Count`, how many bytes the part has. For
+    /// `Below`, the number in the field. For any other rule, 0.
     pub most: u64,
     /// The other field of which the rule speaks, or nothing if it speaks of one alone. A field of another table is followed by
     /// the signature. Of a part that isn't there, it says what it is.

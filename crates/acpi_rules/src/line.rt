@@ -4,6 +4,7 @@ ghost use Rattle.std.specs.Prelude.{◌≡◌, ◌++◌, OnOk, string_bytes};
 ghost use Rattle.acpi_rules.specs.Finding.{noted};
 ghost use Rattle.acpi_rules.specs.Line.{standard_tables, contains, severity, rule_name, hex_text, one_text, least_text};
 ghost use Rattle.acpi_rules.specs.Line.{misfit_text, bytes_text, room_text, target_text, not_all_text};
+ghost use Rattle.acpi_rules.specs.Line.{with_text, after_text, outside_text};
 ghost use Rattle.acpi_rules.specs.Line.{reserved_text, range_text, pair_text, own_text, below_text, limit_text};
 ghost use Rattle.acpi_rules.specs.Line.{machine_text, tables_text, absent_text, relates_text};
 ghost use Rattle.acpi_rules.specs.Line.{says, field_text, source_text, finding_text};
@@ -71,6 +72,7 @@ impl Rule {
             Rule::Disjoint => "disjoint",
             Rule::AtMost => "at-most",
             Rule::NoOverflow => "no-overflow",
+            Rule::Inside => "inside",
             Rule::Count => "count",
             Rule::Pair => "pair",
             Rule::Required => "required",
@@ -150,6 +152,33 @@ fn push_room(room: u64, text: &mut String) -> Result<(), AllocError>
     ensures { OnOk result (string_bytes text.new ≡ string_bytes text.old ++ room_text room) }
 {
     push_misfit(text)?;
+    text.push_str(Buffer::new().format(room))?;
+    push_there(text)
+}
+
+// Adds the other field that says how many bytes begin at an offset.
+#[tactic(auto, unfolding(crate::specs::Line::with_text))]
+fn push_with(other: &str, text: &mut String) -> Result<(), AllocError>
+    ensures { OnOk result (string_bytes text.new ≡ string_bytes text.old ++ with_text other.now) }
+{
+    text.push_str(" with ")?;
+    push_label(other, text)
+}
+
+// Adds the words before the number of bytes after which they end.
+#[tactic(auto, unfolding(crate::specs::Line::after_text))]
+fn push_after(text: &mut String) -> Result<(), AllocError>
+    ensures { OnOk result (string_bytes text.new ≡ string_bytes text.old ++ after_text) }
+{
+    text.push_str(" ends after the ")
+}
+
+// Adds that bytes at an offset, as many as another field says, end after those that are there.
+fn push_outside(room: u64, other: &str, text: &mut String) -> Result<(), AllocError>
+    ensures { OnOk result (string_bytes text.new ≡ string_bytes text.old ++ outside_text room other.now) }
+{
+    push_with(other, text)?;
+    push_after(text)?;
     text.push_str(Buffer::new().format(room))?;
     push_there(text)
 }
@@ -299,6 +328,7 @@ fn push_relates(
             text.push_str(": also at ")?;
             text.push_str(Buffer::new().format(number))
         }
+        Rule::Inside => push_outside(most, other, text),
         Rule::Count => push_room(most, text),
         Rule::Multiple => {
             text.push_str(" isn't n * ")?;

@@ -1,12 +1,13 @@
 //! The rules on numbers of one part of a table. A function whose name begins with `check` adds to findings.
 
-ghost use Rattle.std.specs.Prelude.{◌≡◌, ◌+◌, ◌-◌, ◌*◌, ◌%◌, ◌^◌, ◌==◌, ◌++◌, nat_le, nat_lt, map, OnOk};
+ghost use Rattle.std.specs.Prelude.{◌≡◌, ◌+◌, ◌-◌, ◌*◌, ◌%◌, ◌^◌, ◌==◌, ◌||◌, ◌++◌, nat_le, nat_lt, map, OnOk};
 ghost use Rattle.std.specs.List.{flat_map};
 ghost use Rattle.acpi_rules.specs.Demand.{spot_by, demand_by};
 ghost use Rattle.acpi_rules.specs.Finding.{noted};
 ghost use Rattle.acpi_rules.specs.Item.{item_by};
-ghost use Rattle.acpi_rules.specs.Order.{order_findings, address_findings, count_findings, pair_findings, needed_findings};
-ghost use Rattle.acpi_rules.specs.Order.{needs_findings, between_findings, multiple_findings, not_all_findings, number_findings};
+ghost use Rattle.acpi_rules.specs.Order.{order_findings, address_findings, inside_findings, count_findings, pair_findings};
+ghost use Rattle.acpi_rules.specs.Order.{needed_findings, needs_findings, between_findings, multiple_findings, not_all_findings};
+ghost use Rattle.acpi_rules.specs.Order.{number_findings};
 
 use crate::demand::{Demand, Spot};
 use crate::finding::{Finding, Rule};
@@ -69,6 +70,39 @@ fn check_addresses<'a>(
         other: size.name,
     };
     add_related(Rule::NoOverflow, &said, &item.field, findings)
+}
+
+// Returns whether bytes that begin at an offset end within a length. No bytes do at any offset.
+fn is_inside(start: u64, size: u64, length: usize) -> bool
+    ensures { result ≡ (size == 0 || nat_le (start + size) length) }
+{
+    match start.checked_add(size) {
+        Some(end) => size == 0 || end <= length as u64,
+        None => size == 0,
+    }
+}
+
+// Adds that a part ends before the bytes at an offset do.
+fn check_inside<'a>(
+    section: &'static str,
+    size: &Spot,
+    item: &Item<'a>,
+    findings: &mut Vec<Finding<'a>>,
+) -> Result<(), AllocError>
+    ensures { OnOk result (map noted findings.new.items ≡ map noted findings.old.items
+        ++ inside_findings section.now (spot_by size.now) (item_by item.now)) }
+{
+    let long = number_in(size, item.bytes);
+    if is_inside(number_of(&item.field), long, item.bytes.len()) {
+        return Ok(());
+    }
+    let said = Said {
+        section,
+        number: long,
+        most: item.bytes.len() as u64,
+        other: size.name,
+    };
+    add_related(Rule::Inside, &said, &item.field, findings)
 }
 
 // Returns whether entries of a size, as many as a number says, stand between an offset and the end of bytes.
@@ -264,6 +298,7 @@ fn check_numbers<'a>(
     match *demand {
         Demand::AtMost(other) => check_order(section, &other, item, findings),
         Demand::Addresses(size) => check_addresses(section, &size, item, findings),
+        Demand::Inside(size) => check_inside(section, &size, item, findings),
         Demand::Counts(start, size) => check_count(section, start, size, item, findings),
         Demand::Agrees(other) => check_pair(section, &other, item, findings),
         Demand::Needed(other) => check_needed(section, &other, item, findings),

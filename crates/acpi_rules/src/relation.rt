@@ -46,6 +46,7 @@ fn check_demand<'a>(
         Demand::Includes(_, what) => check_all_present(section, what, numbers, items, findings),
         Demand::AtMost(_)
         | Demand::Addresses(_)
+        | Demand::Inside(_)
         | Demand::Counts(_, _)
         | Demand::Agrees(_)
         | Demand::Needed(_)

@@ -11,7 +11,7 @@ ghost use Rattle.acpi_rules.specs.Standard.{bounded, referred, placed, included,
 use crate::allowed::Allowed;
 use crate::demand::Demand::{
     Addresses, Agrees, Apart, AtMost, Between, Counts, Differs, Disjoint, Distances, Ends,
-    Includes, Multiple, Needed, Needs, NotAll, Points, Refers,
+    Includes, Inside, Multiple, Needed, Needs, NotAll, Points, Refers,
 };
 use crate::demand::Of::{Each, Entries, Kind, Whole};
 use crate::demand::When::{Always, Is, Not};
@@ -28,7 +28,7 @@ use acpi_text::form::Count::Field as FieldCount;
 use acpi_text::form::TableForm;
 use std::alloc::{AllocError, Global};
 
-// Numbers that a form has no name for, and that aren't reserved.
+// Numbers that are allowed, although a form has no name for them.
 #[rattlefmt::skip]
 const ALLOWED: [Allowed; 13] = [
     // Address spaces of an OEM (ACPI 6.5, 5.2.3.2).
@@ -186,7 +186,7 @@ macro_rules! spot {
     };
 }
 
-// Structures of a type, if some of their bits are as they have to be.
+// Some parts of a table.
 macro_rules! among {
     ($of:expr, $when:expr) => {
         Among {
@@ -216,7 +216,7 @@ macro_rules! rule {
 
 // Numbers and addresses that no two structures of a MADT have.
 #[rattlefmt::skip]
-const NUMBERED: [Relation; 24] = [
+const NUMBERED: [Relation; 26] = [
     rule!("APIC", Kind(0), Is(DWord(4), 1, 1), spot!(2, 1, "ACPI Processor UID"), Differs, "ACPI 6.5, 5.2.12.2"),
     rule!("APIC", Kind(0), Is(DWord(4), 1, 1), spot!(3, 1, "APIC ID"), Differs, "ACPI 6.5, 5.2.12.2"),
     rule!("APIC", Kind(1), Always, spot!(2, 1, "I/O APIC ID"), Differs, "ACPI 6.5, 5.2.12.3"),
@@ -240,6 +240,9 @@ const NUMBERED: [Relation; 24] = [
     rule!("APIC", Kind(26), Always, spot!(20, 4, "Global System Interrupt Base"), Differs, "ACPI 6.6, 5.2.12"),
     rule!("APIC", Kind(27), Always, spot!(3, 1, "PLIC ID"), Differs, "ACPI 6.6, 5.2.12"),
     rule!("APIC", Kind(27), Always, spot!(32, 4, "Global System Interrupt Base"), Differs, "ACPI 6.6, 5.2.12"),
+    // An address override and a distributor, of which there is one.
+    rule!("APIC", Kind(5), Always, spot!(0, 1, "Type"), Differs, "ACPI 6.5, 5.2.12.8"),
+    rule!("APIC", Kind(12), Always, spot!(0, 1, "Type"), Differs, "ACPI 6.5, 5.2.12.15"),
     // Ranges of redistributors.
     rule!("APIC", Kind(14), Always, spot!(4, 8, "Discovery Range Base Address"),
         Disjoint(spot!(12, 4, "Discovery Range Length")), "ACPI 6.5, 5.2.12.17"),
@@ -264,7 +267,7 @@ const DIFFERENT: [Relation; 20] = [
     rule!("RSDT", Each, Always, spot!(0, 4, "Entry"), Differs, "ACPI 6.5, 5.2.7"),
     rule!("IORT", Each, Not(DWord(4), 0xffff_ffff, 0), spot!(4, 4, "Identifier"), Differs, "Arm DEN0049E.d"),
     rule!("DMAR", Kind(0), Always, spot!(8, 8, "Register Base Address"), Differs, "VT-d 4.1, 8.3"),
-    // The unit that has all other devices of a segment.
+    // A segment has one unit for all other devices.
     rule!("DMAR", Kind(0), Is(Byte(4), 1, 1), spot!(6, 2, "Segment Number"), Differs, "VT-d 4.1, 8.3"),
     rule!("LPIT", Kind(0), Always, spot!(8, 2, "Unique ID"), Differs, "Intel Low Power S0 Idle 1.1"),
     rule!("APMT", Each, Always, spot!(4, 4, "Identifier"), Differs, "Arm DEN0117"),
@@ -277,7 +280,7 @@ const ORDERED: [Relation; 25] = [
     // Buses of a segment.
     rule!("MCFG", Each, Always, spot!(10, 1, "Start Bus Number"),
         Apart(spot!(8, 2, "PCI Segment Group Number"), spot!(11, 1, "End Bus Number")), "PCI Firmware 3.3, 4.1.2"),
-    // Ranges of addresses. Memory may come into a range of a SRAT that is hot-pluggable, and has a range of its own then.
+    // Ranges of addresses. A hot-pluggable range of a SRAT may have other ranges in it.
     rule!("SRAT", Kind(1), Is(DWord(28), 3, 1), spot!(8, 8, "Base Address"), Disjoint(spot!(16, 8, "Length")),
         "ACPI 6.5, 5.2.16.2"),
     rule!("CEDT", Kind(0), Always, spot!(16, 8, "Base"), Disjoint(spot!(24, 8, "Length")), "CXL 3.0, 9.17.1"),
@@ -321,9 +324,9 @@ const ORDERED: [Relation; 25] = [
         "TCG ACPI Specification 1.4, 8"),
 ];
 
-// Structures that have as many entries as they say.
+// Structures that have as many entries as they say, and the bytes of which they have the offsets.
 #[rattlefmt::skip]
-const COUNTED: [Relation; 17] = [
+const COUNTED: [Relation; 26] = [
     rule!("PPTT", Kind(0), Always, spot!(16, 4, "Number of private resources"), Counts(20, 4), "ACPI 6.5, 5.2.30.1"),
     rule!("HMAT", Kind(1), Always, spot!(12, 4, "Number of Initiator Proximity Domains"), Counts(32, 4), "ACPI 6.5, 5.2.28.4"),
     rule!("HMAT", Kind(1), Always, spot!(16, 4, "Number of Target Proximity Domains"), Counts(32, 4), "ACPI 6.5, 5.2.28.4"),
@@ -340,6 +343,23 @@ const COUNTED: [Relation; 17] = [
     rule!("DBG2", Each, Always, spot!(3, 1, "NumberofGenericAddressRegisters"), Counts(22, 12), "Microsoft DBG2"),
     rule!("DBG2", Each, Always, spot!(4, 2, "NamespaceStringLength"), Counts(22, 1), "Microsoft DBG2"),
     rule!("DBG2", Each, Always, spot!(8, 2, "OemDataLength"), Counts(22, 1), "Microsoft DBG2"),
+    // A node has 32 bytes at least.
+    rule!("MPST", Whole, Always, spot!(40, 2, "Memory Power Node Count"), Counts(44, 32), "ACPI 6.5, 5.2.22"),
+    // Bytes at an offset.
+    rule!("SDEV", Kind(0), Always, spot!(4, 2, "Device Identifier Offset"), Inside(spot!(6, 2, "Device Identifier Length")),
+        "ACPI 6.5, 5.2.27"),
+    rule!("SDEV", Kind(0), Always, spot!(8, 2, "Vendor Specific Data Offset"),
+        Inside(spot!(10, 2, "Vendor Specific Data Length")), "ACPI 6.5, 5.2.27"),
+    rule!("SDEV", Kind(0), Is(Byte(1), 2, 2), spot!(12, 2, "Secure Access Components Offset"),
+        Inside(spot!(14, 2, "Secure Access Components Length")), "ACPI 6.5, 5.2.27"),
+    rule!("SDEV", Kind(1), Always, spot!(8, 2, "PCI Path Offset"), Inside(spot!(10, 2, "PCI Path Length")), "ACPI 6.5, 5.2.27"),
+    rule!("SDEV", Kind(1), Always, spot!(12, 2, "Vendor Specific Data Offset"),
+        Inside(spot!(14, 2, "Vendor Specific Data Length")), "ACPI 6.5, 5.2.27"),
+    rule!("DBG2", Each, Always, spot!(6, 2, "NamespaceStringOffset"), Inside(spot!(4, 2, "NamespaceStringLength")),
+        "Microsoft DBG2"),
+    rule!("DBG2", Each, Always, spot!(10, 2, "OemDataOffset"), Inside(spot!(8, 2, "OemDataLength")), "Microsoft DBG2"),
+    rule!("SPCR", Whole, Always, spot!(86, 2, "NamespaceStringOffset"), Inside(spot!(84, 2, "NamespaceStringLength")),
+        "Microsoft SPCR"),
     // Distances (5.2.17).
     rule!("SLIT", Whole, Always, spot!(36, 8, "Number of System Localities"),
         Distances(spot!(44, 1, "Distances from a Locality")), "ACPI 6.5, 5.2.17"),
@@ -348,8 +368,7 @@ const COUNTED: [Relation; 17] = [
 // Fields of a FADT that depend on each other.
 #[rattlefmt::skip]
 const PAIRED: [Relation; 19] = [
-    // Two fields for one address: both say the same, unless one is zero. Those of register blocks are compared if both are in
-    // System I/O space.
+    // Two fields have the same address, unless one is zero. Those of a register block are compared if it is in System I/O space.
     rule!("FACP", Whole, Always, spot!(36, 4, "FIRMWARE_CTRL"), Agrees(spot!(132, 8, "X_FIRMWARE_CTRL")), "ACPI 6.5, 5.2.9"),
     rule!("FACP", Whole, Always, spot!(40, 4, "DSDT"), Agrees(spot!(140, 8, "X_DSDT")), "ACPI 6.5, 5.2.9"),
     rule!("FACP", Whole, Is(Byte(148), 255, 1), spot!(56, 4, "PM1a_EVT_BLK"), Agrees(spot!(152, 8, "X_PM1a_EVT_BLK")),
@@ -417,7 +436,7 @@ const ALIGNED: [Relation; 17] = [
 
 // Ranges of fields at an offset of a table or of a structure. Some depend on other fields.
 #[rattlefmt::skip]
-const BOUNDED: [Relation; 26] = [
+const BOUNDED: [Relation; 27] = [
     rule!("FACP", Whole, Is(DWord(112), 1024, 1024), spot!(116, 1, "Address Space ID"), Between(0, 2), "ACPI 6.5, 5.2.9"),
     rule!("FACP", Whole, Is(DWord(112), 1024, 1024), spot!(117, 1, "Register Bit Width"), Between(8, 8), "ACPI 6.5, 5.2.9"),
     rule!("FACP", Whole, Is(DWord(112), 1024, 1024), spot!(118, 1, "Register Bit Offset"), Between(0, 0), "ACPI 6.5, 5.2.9"),
@@ -430,6 +449,7 @@ const BOUNDED: [Relation; 26] = [
     rule!("ECDT", Whole, Always, spot!(48, 1, "Address Space ID"), Between(0, 1), "ACPI 6.5, 5.2.15"),
     rule!("HPET", Whole, Always, spot!(40, 1, "Address Space ID"), Between(0, 1), "IA-PC HPET 1.0a, 3.2.4"),
     rule!("BGRT", Whole, Always, spot!(36, 2, "Version"), Between(1, 1), "ACPI 6.5, 5.2.23"),
+    rule!("APIC", Whole, Always, spot!(8, 1, "Revision"), Between(1, 255), "ACPI 6.5, 5.2.12"),
     rule!("APIC", Kind(4), Always, spot!(5, 1, "Local APIC LINT#"), Between(0, 1), "ACPI 6.5, 5.2.12.7"),
     rule!("APIC", Kind(10), Always, spot!(8, 1, "Local x2APIC LINT#"), Between(0, 1), "ACPI 6.5, 5.2.12.13"),
     rule!("PPTT", Kind(1), Is(DWord(4), 128, 128), spot!(24, 4, "Cache ID"), Between(1, 0xffff_ffff), "ACPI 6.5, 5.2.30.2"),
@@ -448,7 +468,7 @@ const BOUNDED: [Relation; 26] = [
     rule!("RHCT", Whole, Always, spot!(40, 8, "Time Base Frequency"), Between(1, 0xffff_ffff_ffff_ffff), "ACPI 6.6"),
     rule!("TCPA", Whole, Is(Word(36), 65535, 0), spot!(4, 4, "Length"), Between(50, 50), "TCG ACPI Specification 1.4"),
     rule!("TCPA", Whole, Is(Word(36), 65535, 1), spot!(4, 4, "Length"), Between(100, 100), "TCG ACPI Specification 1.4"),
-    // An RSDP of 36 bytes.
+    // An RSDP of 36 bytes has the revision 2 or a later one.
     rule!("RSD ", Whole, Is(DWord(20), 0xffff_ffff, 36), spot!(15, 1, "Revision"), Between(2, 255), "ACPI 6.5, 5.2.5.3"),
 ];
 
@@ -498,7 +518,7 @@ pub const REFERRED: [Relation; 21] = [
 // Blocks of registers and regions of memory, which have an address and a length.
 #[rattlefmt::skip]
 const PLACED: [Relation; 16] = [
-    // Blocks of a FADT without a length, unless the flag HW_REDUCED_ACPI is set.
+    // A block of a FADT needs a length, unless the flag HW_REDUCED_ACPI is set.
     rule!("FACP", Whole, Is(DWord(112), 0x10_0000, 0), spot!(80, 4, "GPE0_BLK"), Needs(spot!(92, 1, "GPE0_BLK_LEN")),
         "ACPI 6.5, 5.2.9"),
     rule!("FACP", Whole, Is(DWord(112), 0x10_0000, 0), spot!(84, 4, "GPE1_BLK"), Needs(spot!(93, 1, "GPE1_BLK_LEN")),
@@ -511,7 +531,7 @@ const PLACED: [Relation; 16] = [
         "ACPI 6.5, 5.2.9"),
     rule!("FACP", Whole, Is(DWord(112), 0x10_0000, 0), spot!(236, 8, "X_GPE1_BLK"), Needs(spot!(93, 1, "GPE1_BLK_LEN")),
         "ACPI 6.5, 5.2.9"),
-    // Regions of memory that have a length and an address.
+    // A region of memory with a length needs an address.
     rule!("BERT", Whole, Always, spot!(36, 4, "Boot Error Region Length"), Needs(spot!(40, 8, "Boot Error Region")),
         "ACPI 6.5, 18.3.1"),
     rule!("CCEL", Whole, Always, spot!(40, 8, "Log Area Minimum Length"), Needs(spot!(48, 8, "Log Area Start Address")),
@@ -715,8 +735,8 @@ fn findings_of<'a>(
     fields_findings(alloc, &ALLOWED, &RANGES, bytes, fields)
 }
 
-/// Returns the rules that a table breaks, by its form and its walk: those on each of its fields, in the order of the offsets of
-/// the fields, and then those on several fields, in the order of the rules. The only error is that memory ran out.
+/// Returns the rules that a table breaks, by its form and its walk. First come those on each of its fields, in the order of their
+/// offsets. Then come those on several fields, in the order of the rules. The only error is that memory ran out.
 pub fn table_findings<'a>(
     alloc: Global,
     form: &TableForm,
