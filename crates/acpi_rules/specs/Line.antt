@@ -110,9 +110,13 @@ outside_text room other = with_text other ++ after_text ++ decimal room ++ bytes
 unfoldable pub target_text : List ℕ
 target_text = codes " of a structure to which it may refer"
 
+-- the words before the bits of which one has to be zero
+unfoldable pub lacks_text : List ℕ
+lacks_text = codes " has to lack one of the bits "
+
 -- the bits of which one has to be zero
 abbrev pub not_all_text : ℕ → List ℕ
-not_all_text bits = codes " has to lack one of the bits " ++ hex_text bits
+not_all_text bits = lacks_text ++ hex_text bits
 
 -- what a finding on two fields says of the bytes of its field
 abbrev pub pair_text : Rule → ℕ → ℕ → List ℕ → List ℕ

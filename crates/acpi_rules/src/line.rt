@@ -4,7 +4,7 @@ ghost use Rattle.std.specs.Prelude.{◌≡◌, ◌++◌, OnOk, string_bytes};
 ghost use Rattle.acpi_rules.specs.Finding.{noted};
 ghost use Rattle.acpi_rules.specs.Line.{standard_tables, contains, severity, rule_name, hex_text, one_text, least_text};
 ghost use Rattle.acpi_rules.specs.Line.{misfit_text, bytes_text, room_text, target_text, not_all_text};
-ghost use Rattle.acpi_rules.specs.Line.{with_text, after_text, outside_text};
+ghost use Rattle.acpi_rules.specs.Line.{lacks_text, with_text, after_text, outside_text};
 ghost use Rattle.acpi_rules.specs.Line.{reserved_text, range_text, pair_text, own_text, below_text, limit_text};
 ghost use Rattle.acpi_rules.specs.Line.{machine_text, tables_text, absent_text, relates_text};
 ghost use Rattle.acpi_rules.specs.Line.{says, field_text, source_text, finding_text};
@@ -191,11 +191,19 @@ fn push_target(text: &mut String) -> Result<(), AllocError>
     text.push_str(" of a structure to which it may refer")
 }
 
+// Adds the words before the bits of which one has to be zero.
+#[tactic(auto, unfolding(crate::specs::Line::lacks_text))]
+fn push_lacks(text: &mut String) -> Result<(), AllocError>
+    ensures { OnOk result (string_bytes text.new ≡ string_bytes text.old ++ lacks_text) }
+{
+    text.push_str(" has to lack one of the bits ")
+}
+
 // Adds the bits of which one has to be zero.
 fn push_not_all(bits: u64, text: &mut String) -> Result<(), AllocError>
     ensures { OnOk result (string_bytes text.new ≡ string_bytes text.old ++ not_all_text bits) }
 {
-    text.push_str(" has to lack one of the bits ")?;
+    push_lacks(text)?;
     push_hex(bits, text)
 }
 
