@@ -1,10 +1,17 @@
 -- What is wrong with a text, as it is printed.
-use Rattle.std.specs.Prelude.{ℕ, List, [], ◌∷◌, ◌++◌, map, codes}
+use Rattle.std.specs.Prelude.{ℕ, ◌==◌, if◌then◌else◌, List, [], ◌∷◌, ◌++◌, map, codes}
 use Rattle.std.specs.Fmt.{decimal}
 use Rattle.acpi_read.specs.Report.{printable}
 use Rattle.acpi_compile.specs.declared.fault.Why.{Why}
 use Rattle.acpi_compile.specs.declared.fault.Why.TheVariants as why
 use Rattle.acpi_compile.specs.Squeeze.{squeezed, word_at, line_of}
+
+-- how many arguments a method takes, and how many a call of it has
+abbrev pub argument_word : ℕ → List ℕ
+argument_word takes = if takes == 1 then codes " argument, found " else codes " arguments, found "
+
+abbrev pub takes_text : ℕ → ℕ → List ℕ
+takes_text takes found = codes "takes " ++ decimal takes ++ argument_word takes ++ decimal found
 
 abbrev pub otherwise : List ℕ → List ℕ
 otherwise [] = codes "the ASL of the block ends here"
@@ -22,6 +29,7 @@ words why.Unfinished = codes "a parenthesis, a brace or a string has no end"
 words why.Comment = codes "a comment has no end"
 words why.TooDeep = codes "nested too deep"
 words why.Arguments = codes "other arguments are expected"
+words (why.Takes takes found) = takes_text takes found
 words why.Elements = codes "more elements than the package says"
 words why.Number = codes "a number is expected: 0x and 2, 4, 8 or 16 digits"
 words why.OneByte = codes "a number of one byte is expected: 0x and 2 digits"

@@ -7,6 +7,7 @@ ghost use Rattle.acpi_compile.specs.Compiled.{IsKeptOf, after_note, IsShownAs, I
 
 use crate::argument::{dword_at, string_at};
 use crate::builder::{MAX_LISTS, nodes_of};
+use crate::called::fault_or_call;
 use crate::fault::{AslError, Why, fault, unwritten};
 use crate::node::{Node, list_of, word_node};
 use crate::note::after;
@@ -316,8 +317,10 @@ pub fn compile(alloc: Global, text: &[u8]) -> Result<Vec<u8>, AslError>
     let list = statements(&Context::new(alloc)?, MAX_LISTS, body)?;
     let table = block_of(alloc, node, &list.terms)?;
     let called = stated(alloc, body)?;
-    check(alloc, &kept, node, &called, table.as_slice())?;
-    Ok(Vec::from_slice(alloc, table.as_slice())?)
+    match check(alloc, &kept, node, &called, table.as_slice()) {
+        Ok(()) => Ok(Vec::from_slice(alloc, table.as_slice())?),
+        Err(error) => Err(fault_or_call(alloc, &called, error, body)),
+    }
 }
 
 /// Returns whether a text is ASL: it begins with a DefinitionBlock, or with the note before one.

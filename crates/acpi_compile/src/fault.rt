@@ -3,10 +3,11 @@
 ghost use Rattle.std.specs.Prelude.{◌≡◌, ◌++◌, map, codes, IfOk, OnOk, string_bytes};
 ghost use Rattle.acpi_read.specs.Report.{printable};
 ghost use Rattle.acpi_compile.specs.declared.fault.AslError.TheVariants.{Memory};
-ghost use Rattle.acpi_compile.specs.Fault.{words, undeclared, otherwise, place_text, explained};
+ghost use Rattle.acpi_compile.specs.Fault.{words, argument_word, takes_text, undeclared, otherwise, place_text, explained};
 ghost use Rattle.acpi_compile.specs.Squeeze.{line_of};
 
 use crate::squeeze::{line_of, squeezed, word_at};
+use acpi_asl::number::push_decimal;
 use acpi_base::error::Error;
 use acpi_read::report::push_shown;
 use std::alloc::{AllocError, AllocFailed, Global};
@@ -30,6 +31,8 @@ pub enum Why {
     TooDeep,
     /// A term has other arguments.
     Arguments,
+    /// A call has another number of arguments than the method takes: the number that it takes, and that of the call.
+    Takes(usize, usize),
     /// A package has more elements than it says.
     Elements,
     /// A number has another form than `0x` and two, four, eight or sixteen hexadecimal digits.
@@ -137,6 +140,7 @@ impl Why {
             Why::Comment => text.push_str("a comment has no end"),
             Why::TooDeep => text.push_str("nested too deep"),
             Why::Arguments => text.push_str("other arguments are expected"),
+            Why::Takes(takes, found) => push_takes(*takes, *found, text),
             Why::Elements => text.push_str("more elements than the package says"),
             Why::Number => text.push_str("a number is expected: 0x and 2, 4, 8 or 16 digits"),
             Why::OneByte => text.push_str("a number of one byte is expected: 0x and 2 digits"),
@@ -176,6 +180,27 @@ impl Why {
             Why::Otherwise(word) => push_otherwise(word, text),
         }
     }
+}
+
+fn push_argument_word(takes: usize, text: &mut String) -> Result<(), AllocError>
+    ensures { OnOk result (string_bytes text.new ≡ string_bytes text.old ++ argument_word takes) }
+{
+    if takes == 1 {
+        text.push_str(" argument, found ")
+    } else {
+        text.push_str(" arguments, found ")
+    }
+}
+
+// Adds how many arguments a method takes, and how many a call of it has.
+#[tactic(auto, using(acpi_read::proofs::Texts::after_four))]
+fn push_takes(takes: usize, found: usize, text: &mut String) -> Result<(), AllocError>
+    ensures { OnOk result (string_bytes text.new ≡ string_bytes text.old ++ takes_text takes found) }
+{
+    text.push_str("takes ")?;
+    push_decimal(takes as u64, text)?;
+    push_argument_word(takes, text)?;
+    push_decimal(found as u64, text)
 }
 
 // Adds the name of which there is no object.

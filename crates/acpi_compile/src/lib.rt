@@ -4,6 +4,7 @@
 mod argument;
 pub mod block;
 mod builder;
+mod called;
 mod constant;
 mod declaration;
 mod entry;

@@ -113,10 +113,17 @@ pub fn stated(alloc: Global, nodes: &[Node<'_>]) -> Result<Arities, AslError> {
     Ok(called)
 }
 
-// The names that statements and operators make are no uses of objects. Returns the other arguments of a node.
-fn used<'a, 'b>(node: &'b Node<'a>) -> &'b [Node<'a>] {
-    let arguments = list_of(&node.arguments);
-    match node.word {
+// Which argument is the name of the object that a statement makes.
+#[derive(Clone, Copy)]
+enum Made {
+    // The statement makes none.
+    Absent,
+    First,
+    Last,
+}
+
+fn made_at(word: &[u8]) -> Made {
+    match word {
         b"DataTableRegion"
         | b"Device"
         | b"Event"
@@ -127,28 +134,38 @@ fn used<'a, 'b>(node: &'b Node<'a>) -> &'b [Node<'a>] {
         | b"OperationRegion"
         | b"PowerResource"
         | b"Processor"
-        | b"ThermalZone" => {
-            match arguments {
-                [_, others @ ..] => others,
-                [] => &[],
-            }
-        }
+        | b"ThermalZone" => Made::First,
         b"Alias"
         | b"CreateBitField"
         | b"CreateByteField"
         | b"CreateDWordField"
         | b"CreateField"
         | b"CreateQWordField"
-        | b"CreateWordField" => match arguments {
-            [others @ .., _] => others,
-            [] => &[],
-        },
-        _ => arguments,
+        | b"CreateWordField" => Made::Last,
+        _ => Made::Absent,
     }
 }
 
-// Whether the braces of a node have the entries of a field, whose names are made there.
-fn has_entries(node: &Node<'_>) -> bool {
+// The name of an object that is made is no use of it. Returns the other arguments of a node.
+fn used<'a, 'b>(node: &'b Node<'a>) -> &'b [Node<'a>] {
+    match (made_at(node.word), list_of(&node.arguments)) {
+        (Made::First, [_, others @ ..]) => others,
+        (Made::Last, [others @ .., _]) => others,
+        (_, arguments) => arguments,
+    }
+}
+
+/// The name of the object that a node makes.
+pub fn name_made<'a>(node: &Node<'a>) -> Option<&'a [u8]> {
+    match (made_at(node.word), list_of(&node.arguments)) {
+        (Made::First, [name, ..]) => Some(name.word),
+        (Made::Last, [.., name]) => Some(name.word),
+        _ => None,
+    }
+}
+
+/// Whether the braces of a node have the entries of a field, whose names are made there.
+pub fn has_entries(node: &Node<'_>) -> bool {
     matches!(node.word, b"BankField" | b"Field" | b"IndexField")
 }
 
