@@ -4,7 +4,7 @@ use Rattle.std.specs.List.{starts_with}
 use Rattle.acpi_base.specs.Table.{IsTrueTable}
 use Rattle.acpi_asl.specs.Block.{has_terms, IsBlockText}
 use Rattle.acpi_asl.specs.declared.block.BlockText.TheVariants.{Asl}
-use Rattle.acpi_compile.specs.Squeeze.{squeezed}
+use Rattle.acpi_compile.specs.Squeeze.{squeezed, has_block}
 
 -- the ASL of a block, in which names take these numbers of arguments, is these characters but for what a compiler skips
 pub record IsKeptOf (stated : List (List ℕ × ℕ)) (block kept : List ℕ) : Type 0 where
@@ -30,7 +30,9 @@ pub record IsCompiled (text block : List ℕ) : Type 0 where
   pub stated : List (List ℕ × ℕ)
   pub shown : IsShownAs stated block (squeezed text)
 
--- whether a text is ASL: it begins with a DefinitionBlock, or with the note before one
+-- whether a text is ASL: it begins with a DefinitionBlock or with the note before one, or one of its lines begins with a
+-- DefinitionBlock
 abbrev pub is_asl : List ℕ → Bool
 is_asl text =
-    starts_with nat_eq (squeezed text) (codes "DefinitionBlock(") || starts_with nat_eq (squeezed text) (codes "/*=")
+    starts_with nat_eq (squeezed text) (codes "DefinitionBlock(")
+    || (starts_with nat_eq (squeezed text) (codes "/*=") || has_block text)

@@ -101,6 +101,26 @@ is_comment _ = false
 abbrev pub ends_in_comment : List ℕ → Bool
 ends_in_comment text = is_comment (state_after (Code Mark) (unmarked text))
 
+-- ---- where a definition block begins
+
+abbrev pub after_white : List ℕ → List ℕ
+after_white [] = []
+after_white (c ∷ rest) = if is_white c then after_white rest else c ∷ rest
+
+abbrev pub begins_block : List ℕ → Bool
+begins_block text =
+    starts_with nat_eq text (codes "DefinitionBlock") && starts_with nat_eq (after_white (drop 15 text)) (codes "(")
+
+-- the same of the first word of a line, for a text from here on; the line has white space alone before it, or not
+abbrev pub has_block_from : Bool → List ℕ → Bool
+has_block_from fresh [] = false
+has_block_from fresh (c ∷ rest) =
+    (fresh && begins_block (c ∷ rest)) || has_block_from (c == 10 || (fresh && is_white c)) rest
+
+-- whether the first word of a line begins a definition block
+abbrev pub has_block : List ℕ → Bool
+has_block text = has_block_from true text
+
 -- ---- where a kept character stands
 
 -- how many lines end before what is kept of the character at a place, for a text from this state on

@@ -12,7 +12,7 @@ use crate::fault::{AslError, Why, fault, unwritten};
 use crate::node::{Node, list_of, word_node};
 use crate::note::after;
 use crate::number::decimal;
-use crate::squeeze::{begins_note, ends_in_comment, squeezed, word_at, word_len};
+use crate::squeeze::{begins_note, ends_in_comment, has_block, squeezed, word_at, word_len};
 use crate::stated::{first_use, last, stated};
 use crate::term::{Context, statements};
 use acpi_asl::block::{BlockText, has_terms, text_in_part, text_of_block};
@@ -303,6 +303,9 @@ pub fn compile(alloc: Global, text: &[u8]) -> Result<Vec<u8>, AslError>
     if ends_in_comment(text) {
         return Err(fault(last_word(&kept), Why::Comment));
     }
+    if !begins_note(&kept) && word_at(0, &kept) != b"DefinitionBlock".as_slice() {
+        return Err(fault(0, Why::Block));
+    }
     let nodes = nodes_of(alloc, &kept)?;
     let [node, rest @ ..] = nodes.as_slice() else {
         return Err(fault(0, Why::Block));
@@ -323,10 +326,11 @@ pub fn compile(alloc: Global, text: &[u8]) -> Result<Vec<u8>, AslError>
     }
 }
 
-/// Returns whether a text is ASL: it begins with a DefinitionBlock, or with the note before one.
+/// Returns whether a text is ASL: it begins with a DefinitionBlock or with the note before one, or one of its lines begins with a
+/// DefinitionBlock. In the last case `compile` reports what stands before.
 pub fn is_asl(alloc: Global, text: &[u8]) -> Result<bool, AllocError>
     ensures { IfOk result (λ is. is ≡ is_asl text.now) }
 {
     let kept = squeezed(alloc, text)?;
-    Ok(kept.starts_with(b"DefinitionBlock(") || kept.starts_with(b"/*="))
+    Ok(kept.starts_with(b"DefinitionBlock(") || kept.starts_with(b"/*=") || has_block(text))
 }

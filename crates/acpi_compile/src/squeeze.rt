@@ -3,6 +3,7 @@
 ghost use Rattle.std.specs.Prelude.{◌≡◌, ◌≤◌, ◌++◌, false, length, OnOk, IfOk};
 ghost use Rattle.acpi_compile.specs.Squeeze.{is_word, is_white, gapped, next_in_code, next_state, code_bytes, emitted};
 ghost use Rattle.acpi_compile.specs.Squeeze.{ending, unmarked, squeezed, line_of, front_len, note_len, text_len};
+ghost use Rattle.acpi_compile.specs.Squeeze.{after_white, begins_block, has_block};
 ghost use Rattle.acpi_compile.specs.Squeeze.{is_comment, state_after, ends_in_comment, begins_note, word_len, word_at};
 
 use acpi_base::slice::from_offset;
@@ -205,6 +206,41 @@ pub fn ends_in_comment(text: &[u8]) -> bool
         state = next_state(state, *c);
     }
     is_comment(state)
+}
+
+fn after_white(text: &[u8]) -> &[u8]
+    ensures { result.now ≡ after_white text.now }
+{
+    let mut rest = text;
+    'white: while let [c, more @ ..] = rest {
+        if !is_white(*c) {
+            return rest;
+        }
+        rest = more;
+    }
+    rest
+}
+
+fn begins_block(text: &[u8]) -> bool
+    ensures { result ≡ begins_block text.now }
+{
+    text.starts_with(b"DefinitionBlock") && after_white(from_offset(15, text)).starts_with(b"(")
+}
+
+/// Returns whether the first word of a line begins a definition block.
+pub fn has_block(text: &[u8]) -> bool
+    ensures { result ≡ has_block text.now }
+{
+    let mut fresh = true;
+    let mut rest = text;
+    'characters: while let [c, more @ ..] = rest {
+        if fresh && begins_block(rest) {
+            return true;
+        }
+        fresh = *c == b'\n' || (fresh && is_white(*c));
+        rest = more;
+    }
+    false
 }
 
 // Returns how many characters are kept of one.
