@@ -255,8 +255,8 @@ fn set_size(item: &mut [u8]) {
     }
 }
 
-/// The bytes of the descriptor that a macro makes.
-pub fn item(alloc: Global, node: &Node<'_>) -> Result<Vec<u8>, AslError> {
+// The bytes that a macro makes of its arguments and its list.
+fn made(alloc: Global, node: &Node<'_>) -> Result<Vec<u8>, AslError> {
     let Some(descriptor) = descriptor(node.word) else {
         return Err(fault(node.at, Why::Descriptor));
     };
@@ -267,15 +267,33 @@ pub fn item(alloc: Global, node: &Node<'_>) -> Result<Vec<u8>, AslError> {
     Ok(item)
 }
 
-/// Refuses a descriptor whose bytes no macro writes, as one with a list that is too long. `item` has its bytes.
-pub fn check_item(node: &Node<'_>, item: &mut Vec<u8>) -> Result<(), AslError> {
+// Refuses bytes that would not be shown as a macro, since its list is too long or a number isn't one of its own. The bytes and an
+// end tag are a resource template only if they are shown as one.
+fn check_item(node: &Node<'_>, item: &mut Vec<u8>) -> Result<(), AslError> {
     let size = item.len();
     item.extend_from_slice(&[0x79, 0x00])?;
-    let is_written = is_template(item);
+    let is_shown = is_template(item);
     item.truncate(size);
-    if is_written {
+    if is_shown {
         Ok(())
     } else {
         Err(fault(node.at, Why::Values))
     }
+}
+
+// Whether a macro begins or ends a group of descriptors. It alone is no template.
+fn is_of_group(word: &[u8]) -> bool {
+    matches!(
+        word,
+        b"StartDependentFn" | b"StartDependentFnNoPri" | b"EndDependentFn"
+    )
+}
+
+/// The bytes of the descriptor that a macro makes.
+pub fn item(alloc: Global, node: &Node<'_>) -> Result<Vec<u8>, AslError> {
+    let mut item = made(alloc, node)?;
+    if !is_of_group(node.word) {
+        check_item(node, &mut item)?;
+    }
+    Ok(item)
 }

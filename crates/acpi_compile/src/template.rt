@@ -1,18 +1,13 @@
 //! Resource templates (ACPI 6.5, 6.4 and 19.6.117).
 
 use crate::fault::{AslError, Why, fault};
-use crate::item::{check_item, item};
+use crate::item::item;
 use crate::node::{Node, list_of};
 use std::alloc::Global;
 
 // Whether the descriptors after a macro are in its braces.
 fn begins_group(word: &[u8]) -> bool {
     matches!(word, b"StartDependentFn" | b"StartDependentFnNoPri")
-}
-
-// Whether no further descriptors are in the braces of the macro before.
-fn ends_group(word: &[u8]) -> bool {
-    matches!(word, b"EndDependentFn")
 }
 
 // Adds the descriptor of a macro, and those in its braces. They are in braces to this depth.
@@ -26,15 +21,11 @@ fn push_item(
     let Some(depth) = depth.checked_sub(1) else {
         return Err(fault(node.at, Why::TooDeep));
     };
-    let mut item = item(alloc, node)?;
-    if begins_group(node.word) {
-        bytes.extend_from_slice(&item)?;
-        return push_items(alloc, depth, list_of(&node.body), bytes);
-    }
-    if !ends_group(node.word) {
-        check_item(node, &mut item)?;
-    }
+    let item = item(alloc, node)?;
     bytes.extend_from_slice(&item)?;
+    if begins_group(node.word) {
+        push_items(alloc, depth, list_of(&node.body), bytes)?;
+    }
     Ok(())
 }
 
