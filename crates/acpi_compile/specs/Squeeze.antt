@@ -91,13 +91,14 @@ abbrev pub state_after : State → List ℕ → State
 state_after state [] = state
 state_after state (c ∷ rest) = state_after (next_state state c) rest
 
+-- in a comment that is skipped up to its `*/`
 abbrev pub is_comment : State → Bool
 is_comment (Opened last) = true
 is_comment (Comment last) = true
 is_comment (Star last) = true
 is_comment _ = false
 
--- whether a text ends in a comment that isn't kept and has no end
+-- whether a comment has no `*/`; a note is no such comment
 abbrev pub ends_in_comment : List ℕ → Bool
 ends_in_comment text = is_comment (state_after (Code Mark) (unmarked text))
 

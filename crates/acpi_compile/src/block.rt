@@ -203,7 +203,7 @@ fn word_start(kept: &[u8], at: usize) -> usize {
     start
 }
 
-// The place of the last word.
+// The place of the last word, string or note of a text. After it stands a comment without an end.
 fn last_word(kept: &[u8]) -> usize {
     word_start(kept, kept.len().saturating_sub(1))
 }

@@ -187,6 +187,7 @@ pub fn squeezed(alloc: Global, text: &[u8]) -> Result<Vec<u8>, AllocError>
     Ok(kept)
 }
 
+// Returns whether a character stands in a comment that is skipped up to its `*/`.
 fn is_comment(state: State) -> bool
     ensures { result ≡ is_comment state }
 {
@@ -196,7 +197,7 @@ fn is_comment(state: State) -> bool
     }
 }
 
-/// Returns whether a text ends in a comment that isn't kept and has no end.
+/// Returns whether a comment of a text has no `*/`. A note, which is kept, is no such comment.
 pub fn ends_in_comment(text: &[u8]) -> bool
     ensures { result ≡ ends_in_comment text.now }
 {
