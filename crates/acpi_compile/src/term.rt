@@ -417,6 +417,14 @@ fn acquire_operands(
     Ok(list)
 }
 
+// Whether a target is left out, with its comma or without it.
+fn is_left_out(target: Option<&Node<'_>>) -> bool {
+    match target {
+        Some(node) => node.is_absent() && node.has_known_note(),
+        None => true,
+    }
+}
+
 // The operands of an operator. A target that is left out is a NullName, whose byte is that of Zero.
 #[cycle(term)]
 fn operands(
@@ -431,18 +439,19 @@ fn operands(
     if op == Op::Acquire {
         return acquire_operands(context, depth, node);
     }
-    let mut list = SizedList::new(context.alloc);
-    let first_target = usize::from(op.operands()).saturating_sub(targets(op));
-    'operands: for (i, operand) in list_of(&node.arguments).iter().enumerate() {
-        if i >= first_target && operand.is_absent() && operand.has_known_note() {
-            list.add(number(0, 0))?;
-        } else {
-            list.add(term(context, depth, operand)?)?;
-        }
+    let arguments = list_of(&node.arguments);
+    let count = usize::from(op.operands());
+    if arguments.len() > count {
+        return Err(wrong(node));
     }
-    // The last target may be left out with its comma.
-    if targets(op) > 0 && list.terms.len() + 1 == usize::from(op.operands()) {
-        list.add(number(0, 0))?;
+    let mut list = SizedList::new(context.alloc);
+    let first_target = count.saturating_sub(targets(op));
+    'operands: for i in 0..count {
+        match arguments.get(i) {
+            operand if i >= first_target && is_left_out(operand) => list.add(number(0, 0))?,
+            Some(operand) => list.add(term(context, depth, operand)?)?,
+            None => return Err(wrong(node)),
+        }
     }
     Ok(list)
 }
