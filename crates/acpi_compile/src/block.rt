@@ -78,9 +78,12 @@ fn signature_of(alloc: Global, node: &Node<'_>) -> Result<[u8; 4], AslError> {
 
 // The table of a DefinitionBlock's arguments, without its terms.
 fn header(alloc: Global, node: &Node<'_>) -> Result<Sdt, AslError> {
-    let [_, signature, revision, oem, table, oem_revision] = list_of(&node.arguments) else {
+    let [file, signature, revision, oem, table, oem_revision] = list_of(&node.arguments) else {
         return Err(fault(node.at, Why::Arguments));
     };
+    if file.word.starts_with(b"\"") && file.word != b"\"\"".as_slice() {
+        return Err(fault(file.at, Why::FileName));
+    }
     let Some(number) = decimal(revision.word) else {
         return Err(fault(revision.at, Why::Count));
     };

@@ -74,6 +74,15 @@ impl<'a> Builder<'a> {
         Ok(())
     }
 
+    // Whether the last node has such a list, or one that stands after it.
+    fn has_list(&self, braces: bool) -> bool {
+        match self.inner.nodes.last() {
+            Some(node) if braces => node.body.is_some(),
+            Some(node) => !node.is_alone(),
+            None => false,
+        }
+    }
+
     // Begins a list in parentheses or in braces.
     fn open(&mut self, at: usize, braces: bool) -> Result<(), AslError> {
         if self.outer.len() >= MAX_LISTS {
@@ -83,7 +92,7 @@ impl<'a> Builder<'a> {
             self.fill(at)?;
             self.inner.filled = true;
         }
-        if !self.inner.filled {
+        if !self.inner.filled || self.has_list(braces) {
             return Err(fault(at, Why::Unexpected));
         }
         let list = empty_list(self.alloc, braces);
@@ -141,9 +150,19 @@ impl<'a> Builder<'a> {
             b')' => self.close(at, false),
             b'{' => self.open(at, true),
             b'}' => self.close(at, true),
-            b'=' | b'+' | b'-' | b'*' | b'/' | b'%' | b'&' | b'|' | b'!' | b'~' | b'<' | b'>' => {
-                Err(fault(at, Why::Symbol))
-            }
+            b'='
+            | b'+'
+            | b'-'
+            | b'*'
+            | b'/'
+            | b'%'
+            | b'&'
+            | b'|'
+            | b'!'
+            | b'~'
+            | b'<'
+            | b'>'
+            | b'[' => Err(fault(at, Why::Symbol)),
             _ => Err(fault(at, Why::Unexpected)),
         }
     }

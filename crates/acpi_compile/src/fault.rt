@@ -17,6 +17,8 @@ use std::alloc::{AllocError, AllocFailed, Global};
 pub enum Why {
     /// There is no DefinitionBlock, or something follows it.
     Block,
+    /// A DefinitionBlock names a file.
+    FileName,
     /// The signature isn't that of a definition block.
     Signature,
     /// A parenthesis, a brace, a comma or a word isn't expected.
@@ -29,9 +31,9 @@ pub enum Why {
     Comment,
     /// The lists are nested too deep.
     TooDeep,
-    /// A term has other arguments.
+    /// A term has other arguments, or lacks some.
     Arguments,
-    /// A call has another number of arguments than the method takes: the number that it takes, and that of the call.
+    /// A call or a macro has another number of arguments than the method or the descriptor takes: this number, and its own.
     Takes(usize, usize),
     /// A package has more elements than it says.
     Elements,
@@ -55,14 +57,18 @@ pub enum Why {
     Uuid,
     /// An EISA id has another form.
     EisaId,
-    /// A word is neither a keyword nor a name.
+    /// A word is neither a keyword that is read nor a name.
     Word,
     /// A keyword isn't one of those of its argument.
     Keyword,
     /// An entry of a field has another form.
     Entry,
-    /// A resource descriptor has no macro of this name, or the macro has another number of arguments.
+    /// A resource descriptor has no macro of this name.
     Descriptor,
+    /// A resource descriptor has a name.
+    DescriptorName,
+    /// A StartDependentFn has no EndDependentFn, or an EndDependentFn ends none.
+    Group,
     /// A resource descriptor can't have one of these values, or this list.
     Values,
     /// A resource source has no index.
@@ -133,13 +139,16 @@ impl Why {
     {
         match self {
             Why::Block => text.push_str("a DefinitionBlock is expected, and nothing after it"),
+            Why::FileName => text.push_str("the name of a file isn't read here: \"\" is expected"),
             Why::Signature => text.push_str("the signature DSDT, SSDT, PSDT or OSDT is expected"),
             Why::Unexpected => text.push_str("not expected here"),
             Why::Symbol => text.push_str("operators are words here, such as Add and Store"),
             Why::Unfinished => text.push_str("a parenthesis, a brace or a string has no end"),
             Why::Comment => text.push_str("a comment has no end"),
             Why::TooDeep => text.push_str("nested too deep"),
-            Why::Arguments => text.push_str("other arguments are expected"),
+            Why::Arguments => {
+                text.push_str("other arguments are expected, of which none may be left out")
+            }
             Why::Takes(takes, found) => push_takes(*takes, *found, text),
             Why::Elements => text.push_str("more elements than the package says"),
             Why::Number => text.push_str("a number is expected: 0x and 2, 4, 8 or 16 digits"),
@@ -158,11 +167,15 @@ impl Why {
             ),
             Why::Uuid => text.push_str("a UUID is expected: 8-4-4-4-12 hexadecimal digits"),
             Why::EisaId => text.push_str("an EISA id is expected: 3 letters and 4 digits"),
-            Why::Word => text.push_str("neither a keyword nor a name"),
+            Why::Word => text.push_str(
+                "neither a keyword that is read here nor a name (parts of up to 4 capitals, digits or _)",
+            ),
             Why::Keyword => text.push_str("another keyword is expected"),
             Why::Entry => text.push_str("not an entry of a field"),
-            Why::Descriptor => text.push_str(
-                "not a macro of a resource descriptor, or with another number of arguments",
+            Why::Descriptor => text.push_str("not a macro of a resource descriptor"),
+            Why::DescriptorName => text.push_str("the name of a descriptor isn't read here"),
+            Why::Group => text.push_str(
+                "a StartDependentFn has no EndDependentFn, or an EndDependentFn ends none",
             ),
             Why::Values => {
                 text.push_str("the descriptor can't have one of these values, or this list")

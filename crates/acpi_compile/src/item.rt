@@ -9,8 +9,8 @@ use acpi_asl::macros::{Descriptor, checks, descriptors, macro_word, parts, tail}
 use acpi_asl::template::is_template;
 use std::alloc::{AllocError, Global};
 
-/// The descriptor of a macro.
-pub fn descriptor(word: &[u8]) -> Option<Descriptor> {
+// The descriptor of a macro.
+fn descriptor(word: &[u8]) -> Option<Descriptor> {
     'descriptors: for descriptor in descriptors() {
         if macro_word(*descriptor).as_bytes() == word {
             return Some(*descriptor);
@@ -178,6 +178,11 @@ fn push_text(alloc: Global, node: &Node<'_>, item: &mut Vec<u8>) -> Result<(), A
     Ok(())
 }
 
+// Whether a word may be the name that the ASL of a block gives a descriptor whose numbers are all zero.
+fn is_tag(node: &Node<'_>) -> bool {
+    node.word.starts_with(b"Y") && node.is_alone()
+}
+
 // Adds an argument.
 fn push_part(
     alloc: Global,
@@ -192,8 +197,8 @@ fn push_part(
         },
         Part::Number(at, width) => set_number(item, at, width, number_at(node, width)?),
         Part::Blank if node.is_absent() => {}
-        Part::Tag(..) if node.is_alone() => {}
-        Part::Blank | Part::Tag(..) => return Err(fault(node.at, Why::Unexpected)),
+        Part::Tag(..) if node.is_absent() || is_tag(node) => {}
+        Part::Blank | Part::Tag(..) => return Err(fault(node.at, Why::DescriptorName)),
         Part::Text(_, to) => {
             push_text(alloc, node, item)?;
             state(item, to);
@@ -214,7 +219,7 @@ fn push_parts(
 ) -> Result<(), AslError> {
     let arguments = list_of(&node.arguments);
     if parts.len() != arguments.len() {
-        return Err(fault(node.at, Why::Descriptor));
+        return Err(fault(node.at, Why::Takes(parts.len(), arguments.len())));
     }
     let mut has_index = true;
     'parts: for (part, argument) in parts.iter().zip(arguments) {
@@ -281,8 +286,8 @@ fn check_item(node: &Node<'_>, item: &mut Vec<u8>) -> Result<(), AslError> {
     }
 }
 
-// Whether a macro begins or ends a group of descriptors. It alone is no template.
-fn is_of_group(word: &[u8]) -> bool {
+/// Whether a macro begins or ends a group of descriptors. It alone is no template.
+pub fn is_of_group(word: &[u8]) -> bool {
     matches!(
         word,
         b"StartDependentFn" | b"StartDependentFnNoPri" | b"EndDependentFn"

@@ -1,8 +1,9 @@
 //! Resource templates (ACPI 6.5, 6.4 and 19.6.117).
 
 use crate::fault::{AslError, Why, fault};
-use crate::item::item;
+use crate::item::{is_of_group, item};
 use crate::node::{Node, list_of};
+use acpi_asl::template::is_template;
 use std::alloc::Global;
 
 // Whether the descriptors after a macro are in its braces.
@@ -42,10 +43,23 @@ fn push_items(
     Ok(())
 }
 
+// Refuses the first macro that begins or ends a group, in a template where one has no end or no beginning.
+fn check_groups(nodes: &[Node<'_>]) -> Result<(), AslError> {
+    'items: for node in nodes {
+        if is_of_group(node.word) {
+            return Err(fault(node.at, Why::Group));
+        }
+    }
+    Ok(())
+}
+
 /// The bytes of the descriptors of a template, and the end tag (ACPI 6.5, 6.4.2.9) with the checksum 0.
 pub fn template(alloc: Global, nodes: &[Node<'_>]) -> Result<Vec<u8>, AslError> {
     let mut bytes = Vec::new(alloc);
     push_items(alloc, 2, nodes, &mut bytes)?;
     bytes.extend_from_slice(&[0x79, 0x00])?;
+    if !is_template(&bytes) {
+        check_groups(nodes)?;
+    }
     Ok(bytes)
 }
