@@ -271,7 +271,7 @@ fn unlike(alloc: Global, shown: &[u8], kept: &[u8], node: &Node<'_>) -> Result<A
     Ok(fault(past_space(kept, at), Why::Otherwise(word)))
 }
 
-// Refuses a block whose ASL is another text.
+// Refuses a block whose ASL is another text, at the first word that differs.
 fn check(
     alloc: Global,
     kept: &[u8],
@@ -295,6 +295,25 @@ fn check(
         return Ok(());
     }
     Err(unlike(alloc, noted_as(&shown, kept), kept, node)?)
+}
+
+// The same. If a call before that word has another number of arguments than its method takes, it is the fault.
+fn check_text(
+    alloc: Global,
+    kept: &[u8],
+    node: &Node<'_>,
+    called: &Arities,
+    block: &[u8],
+) -> Result<(), AslError>
+    requires { 36 ≤ length block.now }
+    ensures table { OnOk result (IsTrueTable block.now) }
+    ensures terms { OnOk result (has_terms block.now ≡ true) }
+    ensures shown { OnOk result (IsShownAs called.now block.now kept.now) }
+{
+    match check(alloc, kept, node, called, block) {
+        Ok(()) => Ok(()),
+        Err(error) => Err(fault_or_call(alloc, called, error, list_of(&node.body))),
+    }
 }
 
 /// Makes a text into the definition block that it is the ASL of. The error `Fault` is the first place where the text isn't the
@@ -323,10 +342,8 @@ pub fn compile(alloc: Global, text: &[u8]) -> Result<Vec<u8>, AslError>
     let list = statements(&Context::new(alloc)?, MAX_LISTS, body)?;
     let table = block_of(alloc, node, &list.terms)?;
     let called = stated(alloc, body)?;
-    match check(alloc, &kept, node, &called, table.as_slice()) {
-        Ok(()) => Ok(Vec::from_slice(alloc, table.as_slice())?),
-        Err(error) => Err(fault_or_call(alloc, &called, error, body)),
-    }
+    check_text(alloc, &kept, node, &called, table.as_slice())?;
+    Ok(Vec::from_slice(alloc, table.as_slice())?)
 }
 
 /// Returns whether a text is ASL: it begins with a DefinitionBlock or with the note before one, or one of its lines begins with a
