@@ -156,11 +156,19 @@ fn low_reduced(
     Ok(())
 }
 
-fn files_of(alloc: Global, objects: &[&dyn Aml]) -> R<Vec<Vec<u8>>> {
+fn push_file(alloc: Global, object: &dyn Aml, files: &mut Vec<Vec<u8>>) -> R<()> {
+    let file = written(alloc, object)?;
+    files.push(file)?;
+    Ok(())
+}
+
+// The files of a FACS, a definition block, a FADT and a table.
+fn files_of(alloc: Global, block: &Sdt, table: &MCFG) -> R<Vec<Vec<u8>>> {
     let mut files = Vec::new(alloc);
-    for object in objects {
-        files.push(written(alloc, *object)?)?;
-    }
+    push_file(alloc, &FACS::new(), &mut files)?;
+    push_file(alloc, block, &mut files)?;
+    push_file(alloc, &fadt().finalize(), &mut files)?;
+    push_file(alloc, table, &mut files)?;
     Ok(files)
 }
 
@@ -180,12 +188,9 @@ fn from_files(
     Ok(())
 }
 
-// Makes files of a FACS, a definition block, a FADT and a table, and what is made of them.
+// Makes files, and what is made of them.
 fn filed(trial: &mut Trial, alloc: Global, block: &Sdt, table: &MCFG) -> Result<(), Fault> {
-    let fadt = fadt().finalize();
-    let files = trial.make(table, || {
-        Ok(files_of(alloc, &[&FACS::new() as &dyn Aml, block, &fadt, table])?)
-    })?;
+    let files = trial.make(table, || Ok(files_of(alloc, block, table)?))?;
     from_files(trial, alloc, table, &files)
 }
 
