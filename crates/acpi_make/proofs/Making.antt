@@ -22,6 +22,7 @@ use Rattle.acpi_make.specs.Own.{next_line, none_own, table_own, references_own}
 use Rattle.acpi_make.specs.Heading.{structure_form}
 use Rattle.acpi_make.specs.Lack.{lists_of}
 use Rattle.acpi_make.specs.Short.{any_left, size_place, inner_place, leaves_out}
+use Rattle.acpi_make.specs.Short.{leaves_out_length, leaves_out_table_length}
 use Rattle.acpi_make.specs.Short.{short_structure, short_titled, short_inners, short_within}
 use Rattle.acpi_make.specs.Short.{short_of_form, short_in, short_table, short}
 use Rattle.acpi_make.specs.Source.{Source}
@@ -196,11 +197,23 @@ place_whole place at bytes =
     ap (λ cells. any_left (place_width place) (drop (place_offset place) cells)) (drop_known at bytes)
     ∙ none_out (place_width place) (place_offset place) (drop at bytes)
 
+closed_unless : (a b : Bool) → b ≡ false → cond a false b ≡ false
+closed_unless true b is = refl
+closed_unless false b is = is
+
+-- Neither a structure nor the table leaves out its length.
+structure_closed : (place : Place) (at : ℕ) (bytes : List ℕ) → leaves_out_length place false at (known_cells bytes) ≡ false
+structure_closed place at bytes =
+    closed_unless (place_width place == 0) (leaves_out place at (known_cells bytes)) (place_whole place at bytes)
+
+table_closed : (file_kind : FileKind) (bytes : List ℕ) → leaves_out_table_length file_kind (known_cells bytes) ≡ false
+table_closed file_kind bytes = none_out 4 (length_own file_kind (length (known_cells bytes))).offset bytes
+
 structure_whole : (text : List ℕ) (place : Place) (bytes : List ℕ) (marks : List Mark) (at : ℕ) (form : Option StructureForm)
-    → short_structure text place (known_cells bytes) marks at form ≡ None
+    → short_structure text place false (known_cells bytes) marks at form ≡ None
 structure_whole text place bytes marks at None = refl
 structure_whole text place bytes marks at (Some form) =
-    unless_left (leaves_out place at (known_cells bytes)) _ (place_whole place at bytes)
+    unless_left (leaves_out_length place false at (known_cells bytes)) _ (structure_closed place at bytes)
 
 titled_whole : (text : List ℕ) (lists : List InnerList) (bytes : List ℕ) (marks : List Mark) (at : ℕ) (form : Option InnerForm)
     → short_titled text lists (known_cells bytes) marks at form ≡ None
@@ -223,14 +236,15 @@ form_whole : (text : List ℕ) (form : Option StructureForm) (bytes : List ℕ) 
 form_whole text (Some form) bytes marks = inners_whole text (lists_of form.inner.now) bytes marks
 form_whole text None bytes marks = refl
 
-structures_whole : (s : Source) (place : Place) (bytes : List ℕ) (marks : List Mark) → short_in s place (known_cells bytes) marks ≡ None
+structures_whole : (s : Source) (place : Place) (bytes : List ℕ) (marks : List Mark)
+    → short_in s place false (known_cells bytes) marks ≡ None
 structures_whole s place bytes [] = refl
 structures_whole s place bytes (Structure at from to ∷ marks) =
     let form = structure_form s.kind (all_forms s.form) (part_at from to s.text) (drop at (known_cells bytes)) in
     let within = short_of_form s.text form (known_cells bytes) marks in
-    ap (λ first. first_of first (first_of within (short_in s place (known_cells bytes) marks)))
+    ap (λ first. first_of first (first_of within (short_in s place false (known_cells bytes) marks)))
     (structure_whole s.text place bytes marks at form)
-    ∙ ap (λ first. first_of first (short_in s place (known_cells bytes) marks)) (form_whole s.text form bytes marks)
+    ∙ ap (λ first. first_of first (short_in s place false (known_cells bytes) marks)) (form_whole s.text form bytes marks)
     ∙ structures_whole s place bytes marks
 structures_whole s place bytes (Line at from to ∷ marks) = structures_whole s place bytes marks
 structures_whole s place bytes (Reference at w from to ∷ marks) = structures_whole s place bytes marks
@@ -238,13 +252,12 @@ structures_whole s place bytes (Reference at w from to ∷ marks) = structures_w
 all_whole : (file_kind : FileKind) (walk : Option Walk) (s : Source) (d : Drafted) (bytes : List ℕ) → d.cells ≡ known_cells bytes
     → short file_kind walk s d ≡ None
 all_whole file_kind walk s d bytes is =
-    let rest : List Cell → Option Fault = λ cells.
-    first_of (short_within s.text s.form.inner.now cells d.marks) (short_in s (size_place walk) cells d.marks) in
-    ap (λ cells. first_of (short_table file_kind s cells d.marks) (rest cells)) is
-    ∙ ap (λ first. first_of first (rest (known_cells bytes)))
-    (unless_left (any_left 4 (drop (length_own file_kind (length (known_cells bytes))).offset (known_cells bytes))) _
-    (none_out 4 (length_own file_kind (length (known_cells bytes))).offset bytes))
-    ∙ ap (λ first. first_of first (short_in s (size_place walk) (known_cells bytes) d.marks))
+    let all : Bool → List Cell → Option Fault = λ no_length cells.
+    first_of (short_table no_length s cells d.marks)
+    (first_of (short_within s.text s.form.inner.now cells d.marks) (short_in s (size_place walk) no_length cells d.marks)) in
+    ap (λ cells. all (leaves_out_table_length file_kind cells) cells) is
+    ∙ ap (λ no_length. all no_length (known_cells bytes)) (table_closed file_kind bytes)
+    ∙ ap (λ first. first_of first (short_in s (size_place walk) false (known_cells bytes) d.marks))
     (inners_whole s.text (lists_of s.form.inner.now) bytes d.marks)
     ∙ structures_whole s (size_place walk) bytes d.marks
 

@@ -144,8 +144,8 @@ wanted_at t from to (Line at since until ∷ others) end =
     else next from to (name_found (find_anywhere (name_in t since until) t.form)) (next_line others end - at)
 wanted_at t from to (Reference at w since until ∷ others) end = fault from to wants.End
 
--- What has to stand in place of a mark that ends at an offset. If a line of the same field has to stand there, it is the number of
--- its bytes.
+-- What has to stand in place of a mark that ends at an offset. If a line of the same field has to stand there, it is the number
+-- of its bytes.
 abbrev pub wanted_for : Source → Source → Mark → ℕ → List Mark → ℕ → Fault
 wanted_for s t (Line at from to) end (Line start since until ∷ others) size =
     if at == start && is_same_name (name_in s from to) (name_in t since until)

@@ -1,40 +1,43 @@
 -- What a table or a structure lacks, by the lines that a text has for it.
 use Rattle.std.specs.Prelude.{ℕ, zero, suc, ◌+◌, ◌-◌, ◌*◌, ◌==◌, nat_le, not, ◌&&◌, Bool, true, false, if◌then◌else◌}
-use Rattle.std.specs.Prelude.{List, [], ◌∷◌, Option, Some, None}
+use Rattle.std.specs.Prelude.{List, [], ◌∷◌, drop, Option, Some, None}
 use Rattle.std.specs.List.{slice_range}
 use Rattle.acpi_base.specs.Fields.{row_name, row_width}
-use Rattle.acpi_base.specs.Walk.{place_offset}
+use Rattle.acpi_base.specs.Walk.{place_offset, place_width}
 use Rattle.acpi_base.specs.declared.row.Row.{Row}
 use Rattle.acpi_base.specs.declared.row.Row.TheVariants as rows
 use Rattle.acpi_base.specs.declared.walk.Place.{Place}
+use Rattle.acpi_text.specs.declared.form.Choice.{Choice}
 use Rattle.acpi_text.specs.declared.form.Count.TheVariants.{Field}
 use Rattle.acpi_text.specs.declared.form.Inner.{Inner}
 use Rattle.acpi_text.specs.declared.form.Inner.TheVariants.{Nothing, Lists}
 use Rattle.acpi_text.specs.declared.form.InnerForm.{InnerForm}
 use Rattle.acpi_text.specs.declared.form.InnerList.{InnerList}
 use Rattle.acpi_text.specs.declared.form.Part.{Part}
-use Rattle.acpi_text.specs.declared.form.Part.TheVariants.{Fields, Between, Group, Entries, Numbers, Matrix}
+use Rattle.acpi_text.specs.declared.form.Part.TheVariants.{Fields, Between, Group, Entries, Numbers, Matrix, Chosen}
 use Rattle.acpi_make.specs.Draft.{first_of}
 use Rattle.acpi_make.specs.Entry.{is_line_of}
 use Rattle.acpi_make.specs.Fault.{Fault, fault, whole, wide}
-use Rattle.acpi_make.specs.Heading.{is_field}
+use Rattle.acpi_make.specs.Heading.{has_number, is_field}
 use Rattle.acpi_make.specs.Inner.{titled}
 use Rattle.acpi_make.specs.Own.{next_line}
 use Rattle.acpi_make.specs.Text.{part_at, after_offset}
 use Rattle.acpi_make.specs.declared.draft.Mark.{Mark}
 use Rattle.acpi_make.specs.declared.draft.Mark.TheVariants.{Structure, Line, Reference}
 use Rattle.acpi_make.specs.declared.fault.Wanted.TheVariants.{Indented}
+use Rattle.acpi_make.specs.declared.item.Cell.{Cell}
 use Rattle.acpi_make.specs.declared.lack.Fit.{Fit}
 use Rattle.acpi_make.specs.declared.lack.Fit.TheVariants.{Leaves, Lacks, Depends}
 use Rattle.acpi_make.specs.declared.lack.Lines as declared
 
 -- The lines of a table or a structure: the text, the structures within it, the marks from the first of its lines on, the parts of
--- its form, and the number of all bytes of the table.
+-- its form, its bytes and those after it, and the number of all bytes of the table.
 pub record Lines : Type 0 where
   pub text : List ℕ
   pub lists : List InnerList
   pub marks : List Mark
   pub parts : List Part
+  pub cells : List Cell
   pub total : ℕ
 
 abbrev pub lines_in : declared.Lines → Lines
@@ -43,6 +46,7 @@ lines_in l = record {
   lists = l.lists.now;
   marks = l.marks.now;
   parts = l.parts.now;
+  cells = l.cells.now;
   total = l.total;
 }
 
@@ -126,6 +130,18 @@ abbrev pub matrix_room : ℕ → ℕ → ℕ → List Row → Room
 matrix_room n zero columns rows = leaves n
 matrix_room n (suc k) columns rows = room_then (entries_room n columns rows) (λ m. matrix_room m k columns rows)
 
+-- The choice whose number the field at this place of a structure has, if the text has the bytes of this field.
+abbrev pub known_choice : Place → List Choice → List Cell → Option Choice
+known_choice by [] cells = None
+known_choice by (choice ∷ choices) cells =
+    if has_number (place_width by) choice.number (drop (place_offset by) cells) then Some choice
+    else known_choice by choices cells
+
+-- those for the fields of a choice
+abbrev pub choice_room : ℕ → Option Choice → Room
+choice_room n (Some choice) = room n choice.rows.now
+choice_room n None = depends
+
 -- Those for a part, whose size may depend on other fields. A list has as many entries as the text has lines of its name, and a
 -- matrix as many rows and columns as the text has lines of what counts them.
 abbrev pub part_room : Lines → ℕ → Part → Room
@@ -136,6 +152,7 @@ part_room l n (Entries name count rows) = entries_room n (lines_of l name.now) r
 part_room l n (Numbers name width count) = entries_room n (lines_of l name.now) (rows.Number name width ∷ [])
 part_room l n (Matrix name width height columns) =
     matrix_room n (counted_at l height l.parts) (counted_at l columns l.parts) (rows.Number name width ∷ [])
+part_room l n (Chosen by choices) = choice_room n (known_choice by choices.now l.cells)
 part_room l n part = depends
 
 -- The first field at the front of these parts that n bytes lack: before the first part whose size depends on other fields.
@@ -181,17 +198,50 @@ next_heading l (Line at from to ∷ marks) =
 next_heading l (Reference at w from to ∷ marks) = next_heading l marks
 
 -- A field that isn't there, at what stands in its place. This may be a field without white space before it.
-abbrev pub lacking : Lines → List ℕ → ℕ → Fault
-lacking l name width =
-    if is_field (part_at (next_heading l l.marks).0 (next_heading l l.marks).1 l.text)
-    then fault (next_heading l l.marks).0 (next_heading l l.marks).1 Indented
-    else whole (next_heading l l.marks).0 (next_heading l l.marks).1 name width
+abbrev pub lacking : Lines → ℕ → ℕ → List ℕ → ℕ → Fault
+lacking l from to name width =
+    if is_field (part_at from to l.text) then fault from to Indented else whole from to name width
 
-abbrev pub lacking_by : Lines → Room → Option Fault
-lacking_by l (leaves n) = None
-lacking_by l (lacks name width) = Some (lacking l name width)
-lacking_by l depends = None
+abbrev pub lacking_by : Lines → ℕ × ℕ → Room → Option Fault
+lacking_by l range (leaves n) = None
+lacking_by l range (lacks name width) = Some (lacking l range.0 range.1 name width)
+lacking_by l range depends = None
 
--- what a table or a structure of this size lacks: numbers of a row, or a field
-abbrev pub short_of : Lines → ℕ → Option Fault
-short_of l size = first_of (uneven l l.parts) (lacking_by l (first_lacking l size l.parts))
+-- Where an entry of a list ends, and the range of what comes after it: the next line of its name, or the next heading. `end` is
+-- where the table or the structure ends.
+abbrev pub entry_end : Lines → List ℕ → ℕ → List Mark → ℕ × (ℕ × ℕ)
+entry_end l name end [] = (end, (0, 0))
+entry_end l name end (Structure at from to ∷ marks) = (end, (from, to))
+entry_end l name end (Line at from to ∷ marks) =
+    if is_titled (titled (after_offset (part_at from to l.text)) l.lists) then (end, (from, to))
+    else (if is_line_of name (after_offset (part_at from to l.text)) then (at, (from, to)) else entry_end l name end marks)
+entry_end l name end (Reference at w from to ∷ marks) = entry_end l name end marks
+
+-- the first entry of a list that lacks a field
+abbrev pub short_entry : Lines → List ℕ → List Row → ℕ → List Mark → Option Fault
+short_entry l name rows end [] = None
+short_entry l name rows end (Structure at from to ∷ marks) = None
+short_entry l name rows end (Line at from to ∷ marks) =
+    if is_titled (titled (after_offset (part_at from to l.text)) l.lists) then None
+    else (if is_line_of name (after_offset (part_at from to l.text))
+    then first_of
+    (lacking_by l (entry_end l name end marks).1 (room ((entry_end l name end marks).0 - at) rows))
+    (short_entry l name rows end marks)
+    else short_entry l name rows end marks)
+short_entry l name rows end (Reference at w from to ∷ marks) = short_entry l name rows end marks
+
+abbrev pub part_entries : Lines → ℕ → Part → Option Fault
+part_entries l end (Entries name count rows) = short_entry l name.now rows.now end l.marks
+part_entries l end part = None
+
+-- the first entry of a list that lacks a field, of all lists of these parts
+abbrev pub short_entries : Lines → ℕ → List Part → Option Fault
+short_entries l end [] = None
+short_entries l end (part ∷ parts) = first_of (part_entries l end part) (short_entries l end parts)
+
+-- what a table or a structure lacks that begins and ends at these offsets: numbers of a row, a field of an entry, or a field
+abbrev pub short_of : Lines → ℕ → ℕ → Option Fault
+short_of l at end =
+    first_of (uneven l l.parts) (first_of
+    (short_entries l end l.parts)
+    (lacking_by l (next_heading l l.marks) (first_lacking l (end - at) l.parts)))

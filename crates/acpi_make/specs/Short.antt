@@ -1,5 +1,5 @@
 -- Structures that lack fields, and whose length the text leaves out.
-use Rattle.std.specs.Prelude.{ℕ, zero, suc, ◌-◌, Bool, true, false, if◌then◌else◌}
+use Rattle.std.specs.Prelude.{ℕ, zero, suc, ◌==◌, Bool, true, false, if◌then◌else◌}
 use Rattle.std.specs.Prelude.{List, [], ◌∷◌, length, drop, Option, Some, None}
 use Rattle.acpi_base.specs.Walk.{place_offset, place_width}
 use Rattle.acpi_base.specs.declared.walk.Place.{Place}
@@ -58,20 +58,30 @@ inner_place Rest = Nowhere
 abbrev pub leaves_out : Place → ℕ → List Cell → Bool
 leaves_out place at cells = any_left (place_width place) (drop (place_offset place) (drop at cells))
 
+-- whether the text leaves out how long a structure is: its length, or the table's if the structure has no length
+abbrev pub leaves_out_length : Place → Bool → ℕ → List Cell → Bool
+leaves_out_length place no_length at cells = if place_width place == 0 then no_length else leaves_out place at cells
+
+-- whether a byte of the table's length isn't known
+abbrev pub leaves_out_table_length : FileKind → List Cell → Bool
+leaves_out_table_length file_kind cells = any_left 4 (drop (length_own file_kind (length cells)).offset cells)
+
 -- ---- what lacks fields
 
--- a structure of this form at an offset; the marks are those after its heading
-abbrev pub short_structure : List ℕ → Place → List Cell → List Mark → ℕ → Option StructureForm → Option Fault
-short_structure text place cells marks at None = None
-short_structure text place cells marks at (Some form) =
-    if leaves_out place at cells
+-- A structure of this form at an offset. The marks are those after its heading. `no_length` says whether the table's length is
+-- left out.
+abbrev pub short_structure : List ℕ → Place → Bool → List Cell → List Mark → ℕ → Option StructureForm → Option Fault
+short_structure text place no_length cells marks at None = None
+short_structure text place no_length cells marks at (Some form) =
+    if leaves_out_length place no_length at cells
     then short_of (record {
       text = text;
       lists = lists_of form.inner.now;
       marks = marks;
       parts = form.parts.now;
+      cells = drop at cells;
       total = length cells;
-    }) (next_start marks (length cells) - at)
+    }) at (next_start marks (length cells))
     else None
 
 -- a structure within another, of this form at an offset; the marks are those after its name
@@ -84,8 +94,9 @@ short_titled text lists cells marks at (Some form) =
       lists = lists;
       marks = marks;
       parts = form.parts.now;
+      cells = drop at cells;
       total = length cells;
-    }) (next_titled text lists marks (length cells) - at)
+    }) at (next_titled text lists marks (length cells))
     else None
 
 -- the first structure of these lists that lacks fields, up to the next structure
@@ -107,30 +118,33 @@ short_of_form text (Some form) cells marks = short_within text form.inner.now ce
 short_of_form text None cells marks = None
 
 -- the first structure that lacks fields, or has a structure within it that does
-abbrev pub short_in : Source → Place → List Cell → List Mark → Option Fault
-short_in s place cells [] = None
-short_in s place cells (Structure at from to ∷ marks) =
+abbrev pub short_in : Source → Place → Bool → List Cell → List Mark → Option Fault
+short_in s place no_length cells [] = None
+short_in s place no_length cells (Structure at from to ∷ marks) =
     let form = structure_form s.kind (all_forms s.form) (part_at from to s.text) (drop at cells) in
-    first_of (short_structure s.text place cells marks at form)
-    (first_of (short_of_form s.text form cells marks) (short_in s place cells marks))
-short_in s place cells (Line at from to ∷ marks) = short_in s place cells marks
-short_in s place cells (Reference at w from to ∷ marks) = short_in s place cells marks
+    first_of (short_structure s.text place no_length cells marks at form)
+    (first_of (short_of_form s.text form cells marks) (short_in s place no_length cells marks))
+short_in s place no_length cells (Line at from to ∷ marks) = short_in s place no_length cells marks
+short_in s place no_length cells (Reference at w from to ∷ marks) = short_in s place no_length cells marks
 
 -- the fields of a table before structures
-abbrev pub short_table : FileKind → Source → List Cell → List Mark → Option Fault
-short_table file_kind s cells marks =
-    if any_left 4 (drop (length_own file_kind (length cells)).offset cells)
+abbrev pub short_table : Bool → Source → List Cell → List Mark → Option Fault
+short_table no_length s cells marks =
+    if no_length
     then short_of (record {
       text = s.text;
       lists = lists_of s.form.inner.now;
       marks = marks;
       parts = s.form.parts.now;
+      cells = cells;
       total = length cells;
-    }) (next_start marks (length cells))
+    }) 0 (next_start marks (length cells))
     else None
 
 -- the table, a structure within it that isn't in another, or the first of its structures that lacks fields
 abbrev pub short : FileKind → Option Walk → Source → Drafted → Option Fault
 short file_kind walk s d =
-    first_of (short_table file_kind s d.cells d.marks)
-    (first_of (short_within s.text s.form.inner.now d.cells d.marks) (short_in s (size_place walk) d.cells d.marks))
+    first_of (short_table (leaves_out_table_length file_kind d.cells) s d.cells d.marks)
+    (first_of
+    (short_within s.text s.form.inner.now d.cells d.marks)
+    (short_in s (size_place walk) (leaves_out_table_length file_kind d.cells) d.cells d.marks))

@@ -335,7 +335,8 @@ impl Draft {
         Some(self.expected(source, from, to))
     }
 
-    // Returns whether a line of the field with this number may come here: it is the next one, or one of a list, which comes again.
+    // Returns whether a line of the field with this number may come here: it is the next one, or one of a list, which comes
+    // again.
     fn may_come(&self, source: &Source, name: &[u8], number: usize) -> bool
         ensures { result ≡ may_come (source_of source.now) (drafted self.now) name.now number }
     {

@@ -2,8 +2,8 @@
 
 ghost use Rattle.std.specs.Prelude.{◌≡◌, ◌≤◌, nat_le, length, MatchOption, None, Some};
 ghost use Rattle.acpi_base.specs.Walk.{place_width};
-ghost use Rattle.acpi_make.specs.Heading.{is_field, word_front, label_of, unlabelled, described, find_named, numbered, by_heading};
-ghost use Rattle.acpi_make.specs.Heading.{known_front, is_known, is_lowest, has_number, by_bytes, structure_form};
+ghost use Rattle.acpi_make.specs.Heading.{is_field, word_front, label_of, unlabelled, described, find_named, numbered};
+ghost use Rattle.acpi_make.specs.Heading.{by_heading, known_front, is_known, is_lowest, has_number, by_bytes, structure_form};
 ghost use Rattle.acpi_text.specs.Structure.{all_forms};
 
 use crate::entry::is_line_of;

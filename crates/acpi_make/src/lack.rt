@@ -5,19 +5,22 @@ ghost use Rattle.acpi_make.specs.Draft.{fault_in};
 ghost use Rattle.acpi_make.specs.Fault.{fault_of};
 ghost use Rattle.acpi_make.specs.Inner.{titled};
 ghost use Rattle.acpi_make.specs.Lack.{lines_in, lists_of, is_titled, lines_within, lines_of, lines_counted, counted_at};
-ghost use Rattle.acpi_make.specs.Lack.{fit_of, room, entries_room, matrix_room, part_room, first_lacking};
-ghost use Rattle.acpi_make.specs.Lack.{uneven_row, row_size, uneven_part, uneven, next_heading, lacking, short_of};
+ghost use Rattle.acpi_make.specs.Lack.{fit_of, room, entries_room, matrix_room, known_choice, choice_room, part_room};
+ghost use Rattle.acpi_make.specs.Lack.{first_lacking, uneven_row, row_size, uneven_part, uneven, next_heading, lacking};
+ghost use Rattle.acpi_make.specs.Lack.{entry_end, short_entry, part_entries, short_entries, short_of};
 
 use crate::draft::Mark;
 use crate::entry::is_line_of;
 use crate::fault::{Fault, Wanted};
-use crate::heading::is_field;
+use crate::heading::{has_number, is_field};
 use crate::inner::titled;
+use crate::item::Cell;
 use crate::own::next_line;
 use crate::text::{after_offset, part_at};
 use acpi_base::row::Row;
+use acpi_base::slice::from_offset;
 use acpi_base::walk::Place;
-use acpi_text::form::{Count, Inner, InnerList, Part};
+use acpi_text::form::{Choice, Count, Inner, InnerList, Part};
 use acpi_text::part::between;
 
 /// Whether bytes have all of some fields.
@@ -41,6 +44,8 @@ pub struct Lines<'a> {
     pub marks: &'a [Mark],
     /// The parts of its form.
     pub parts: &'a [Part],
+    /// The bytes of the table or the structure, and those after it.
+    pub cells: &'a [Cell],
     /// The number of all bytes of the table.
     pub total: usize,
 }
@@ -174,6 +179,30 @@ fn counted_at(lines: &Lines<'_>, place: Place, parts: &[Part]) -> usize
     0
 }
 
+// Returns the choice whose number the field at a place of a structure has, if the text has the bytes of this field.
+fn known_choice(by: Place, choices: &[Choice], cells: &[Cell]) -> Option<Choice>
+    ensures { result ≡ known_choice by choices.now cells.now }
+{
+    let (offset, end) = (by.offset(), by.end());
+    let bytes = from_offset(offset, cells);
+    'choices: for choice in choices {
+        if has_number(end - offset, choice.number, bytes) {
+            return Some(*choice);
+        }
+    }
+    None
+}
+
+// Returns how many bytes are left after the fields of a choice.
+fn choice_room(size: usize, choice: Option<Choice>) -> Fit
+    ensures { fit_of result ≡ choice_room size choice }
+{
+    match choice {
+        Some(choice) => room(size, choice.rows),
+        None => Fit::Depends,
+    }
+}
+
 // Returns how many bytes are left after the fields of a part. A list has as many entries as the text has lines of its name, and a
 // matrix as many rows and columns as the text has lines of what counts them.
 fn part_room(lines: &Lines<'_>, size: usize, part: &Part) -> Fit
@@ -193,8 +222,8 @@ fn part_room(lines: &Lines<'_>, size: usize, part: &Part) -> Fit
             let count = counted_at(lines, rows, lines.parts);
             matrix_room(size, count, counted_at(lines, columns, lines.parts), &row)
         }
-        Part::Bytes(_, _) | Part::Until(_, _) => Fit::Depends,
-        Part::Chosen(_, _) | Part::BySize(_, _, _) => Fit::Depends,
+        Part::Chosen(by, choices) => choice_room(size, known_choice(by, choices, lines.cells)),
+        Part::Bytes(_, _) | Part::Until(_, _) | Part::BySize(_, _, _) => Fit::Depends,
     }
 }
 
@@ -271,7 +300,8 @@ fn uneven(lines: &Lines<'_>, parts: &[Part]) -> Option<Fault>
     None
 }
 
-// Returns the range of what comes after the lines: the next structure, or the next one within. It is empty at the end of the text.
+// Returns the range of what comes after the lines: the next structure, or the next one within. It is empty at the end of the
+// text.
 fn next_heading(lines: &Lines<'_>, marks: &[Mark]) -> (usize, usize)
     ensures { result ≡ next_heading (lines_in lines.now) marks.now }
 {
@@ -290,10 +320,10 @@ fn next_heading(lines: &Lines<'_>, marks: &[Mark]) -> (usize, usize)
 }
 
 // Returns the fault of a field that isn't there, at what stands in its place. This may be a field without white space before it.
-fn lacking(lines: &Lines<'_>, name: &'static str, width: usize) -> Fault
-    ensures { fault_of result ≡ lacking (lines_in lines.now) name.now width }
+fn lacking(lines: &Lines<'_>, range: (usize, usize), name: &'static str, width: usize) -> Fault
+    ensures { fault_of result ≡ lacking (lines_in lines.now) range.0 range.1 name.now width }
 {
-    let (from, to) = next_heading(lines, lines.marks);
+    let (from, to) = range;
     if is_field(part_at(from, to, lines.text)) {
         Fault::new(from, to, Wanted::Indented)
     } else {
@@ -301,15 +331,99 @@ fn lacking(lines: &Lines<'_>, name: &'static str, width: usize) -> Fault
     }
 }
 
-/// Returns the fault of a table or a structure of this size, if it lacks fields or numbers.
-pub fn short_of(lines: &Lines<'_>, size: usize) -> Option<Fault>
-    ensures { fault_in result ≡ short_of (lines_in lines.now) size }
+// Returns where an entry of a list ends, and the range of what comes after it: the next line of its name, or the next heading.
+// `end` is where the table or the structure ends.
+fn entry_end(lines: &Lines<'_>, name: &str, end: usize, marks: &[Mark]) -> (usize, (usize, usize))
+    ensures { result ≡ entry_end (lines_in lines.now) name.now end marks.now }
+{
+    'marks: for mark in marks {
+        match *mark {
+            Mark::Structure { from, to, .. } => return (end, (from, to)),
+            Mark::Line { at, from, to } => {
+                let line = after_offset(part_at(from, to, lines.text));
+                if is_titled(line, lines.lists) {
+                    return (end, (from, to));
+                }
+                if is_line_of(name.as_bytes(), line) {
+                    return (at, (from, to));
+                }
+            }
+            Mark::Reference { .. } => {}
+        }
+    }
+    (end, (0, 0))
+}
+
+// Returns the fault of the first entry of a list that lacks a field.
+fn short_entry(
+    lines: &Lines<'_>,
+    name: &str,
+    rows: &[Row],
+    end: usize,
+    marks: &[Mark],
+) -> Option<Fault>
+    ensures { fault_in result ≡ short_entry (lines_in lines.now) name.now rows.now end marks.now }
+{
+    'marks: for i in 0..marks.len() {
+        match marks[i] {
+            Mark::Structure { .. } => return None,
+            Mark::Line { at, from, to } => {
+                let line = after_offset(part_at(from, to, lines.text));
+                if is_titled(line, lines.lists) {
+                    return None;
+                }
+                if is_line_of(name.as_bytes(), line) {
+                    let (next, range) = entry_end(lines, name, end, &marks[i + 1..]);
+                    if let Fit::Lacks(field, width) = room(next.saturating_sub(at), rows) {
+                        return Some(lacking(lines, range, field, width));
+                    }
+                }
+            }
+            Mark::Reference { .. } => {}
+        }
+    }
+    None
+}
+
+// Returns the fault of the first entry of a part that lacks a field.
+fn part_entries(lines: &Lines<'_>, end: usize, part: &Part) -> Option<Fault>
+    ensures { fault_in result ≡ part_entries (lines_in lines.now) end part.now }
+{
+    match *part {
+        Part::Entries(name, _, rows) => short_entry(lines, name, rows, end, lines.marks),
+        _ => None,
+    }
+}
+
+// Returns the fault of the first entry of a list that lacks a field, of all lists of the parts.
+fn short_entries(lines: &Lines<'_>, end: usize, parts: &[Part]) -> Option<Fault>
+    ensures { fault_in result ≡ short_entries (lines_in lines.now) end parts.now }
+{
+    'parts: for part in parts {
+        if let Some(fault) = part_entries(lines, end, part) {
+            return Some(fault);
+        }
+    }
+    None
+}
+
+/// Returns the fault of a table or a structure with these offsets of its first byte and its end, if it lacks fields or numbers.
+pub fn short_of(lines: &Lines<'_>, at: usize, end: usize) -> Option<Fault>
+    ensures { fault_in result ≡ short_of (lines_in lines.now) at end }
 {
     if let Some(fault) = uneven(lines, lines.parts) {
         return Some(fault);
     }
-    match first_lacking(lines, size, lines.parts) {
-        Fit::Lacks(name, width) => Some(lacking(lines, name, width)),
+    if let Some(fault) = short_entries(lines, end, lines.parts) {
+        return Some(fault);
+    }
+    match first_lacking(lines, end.saturating_sub(at), lines.parts) {
+        Fit::Lacks(name, width) => Some(lacking(
+            lines,
+            next_heading(lines, lines.marks),
+            name,
+            width,
+        )),
         Fit::Leaves(_) | Fit::Depends => None,
     }
 }

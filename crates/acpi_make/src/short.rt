@@ -3,6 +3,7 @@
 ghost use Rattle.std.specs.Prelude.{◌≡◌};
 ghost use Rattle.acpi_make.specs.Draft.{drafted, fault_in};
 ghost use Rattle.acpi_make.specs.Short.{any_left, place_of_size, size_place, inner_place, leaves_out};
+ghost use Rattle.acpi_make.specs.Short.{leaves_out_length, leaves_out_table_length};
 ghost use Rattle.acpi_make.specs.Short.{short_structure, short_titled, short_inners, short_within, short_of_form, short_in};
 ghost use Rattle.acpi_make.specs.Short.{short_table, short};
 ghost use Rattle.acpi_make.specs.Source.{source_of};
@@ -78,28 +79,50 @@ fn leaves_out(place: Place, at: usize, cells: &[Cell]) -> bool
     any_left(end - offset, from_offset(offset, from_offset(at, cells)))
 }
 
-// Returns the fault of a structure of this form and size, if it lacks fields. The marks are those after its heading.
+// Returns whether the text leaves out how long a structure is: its length, or the table's if the structure has no length.
+fn leaves_out_length(place: Place, no_length: bool, at: usize, cells: &[Cell]) -> bool
+    ensures { result ≡ leaves_out_length place no_length at cells.now }
+{
+    let width = place.end() - place.offset();
+    if width == 0 {
+        no_length
+    } else {
+        leaves_out(place, at, cells)
+    }
+}
+
+// Returns whether the text leaves out a byte of the table's length.
+fn leaves_out_table_length(file_kind: FileKind, cells: &[Cell]) -> bool
+    ensures { result ≡ leaves_out_table_length file_kind cells.now }
+{
+    let offset = length_own(file_kind, cells.len()).offset;
+    any_left(4, from_offset(offset, cells))
+}
+
+// Returns the fault of a structure of this form, if it lacks fields. The marks are those after its heading. `no_length` says
+// whether the table's length is left out.
 fn short_structure(
     text: &[u8],
     place: Place,
+    no_length: bool,
     cells: &[Cell],
     marks: &[Mark],
     at: usize,
     form: Option<StructureForm>,
 ) -> Option<Fault>
-    ensures { fault_in result ≡ short_structure text.now place cells.now marks.now at form }
+    ensures { fault_in result ≡ short_structure text.now place no_length cells.now marks.now at form }
 {
     match form {
-        Some(form) if leaves_out(place, at, cells) => {
+        Some(form) if leaves_out_length(place, no_length, at, cells) => {
             let lines = Lines {
                 text,
                 lists: lists_of(form.inner),
                 marks,
                 parts: form.parts,
+                cells: from_offset(at, cells),
                 total: cells.len(),
             };
-            let size = next_start(marks, cells.len()).saturating_sub(at);
-            short_of(&lines, size)
+            short_of(&lines, at, next_start(marks, cells.len()))
         }
         _ => None,
     }
@@ -123,10 +146,10 @@ fn short_titled(
                 lists,
                 marks,
                 parts: form.parts,
+                cells: from_offset(at, cells),
                 total: cells.len(),
             };
-            let size = next_titled(text, lists, marks, cells.len()).saturating_sub(at);
-            short_of(&lines, size)
+            short_of(&lines, at, next_titled(text, lists, marks, cells.len()))
         }
         _ => None,
     }
@@ -175,8 +198,14 @@ fn short_of_form(
 }
 
 // Returns the fault of the first structure that lacks fields, or has a structure within it that does.
-fn short_in(source: &Source, place: Place, cells: &[Cell], marks: &[Mark]) -> Option<Fault>
-    ensures { fault_in result ≡ short_in (source_of source.now) place cells.now marks.now }
+fn short_in(
+    source: &Source,
+    place: Place,
+    no_length: bool,
+    cells: &[Cell],
+    marks: &[Mark],
+) -> Option<Fault>
+    ensures { fault_in result ≡ short_in (source_of source.now) place no_length cells.now marks.now }
 {
     'marks: for i in 0..marks.len() {
         if let Mark::Structure { at, from, to } = marks[i] {
@@ -184,7 +213,7 @@ fn short_in(source: &Source, place: Place, cells: &[Cell], marks: &[Mark]) -> Op
             let heading = part_at(from, to, text);
             let bytes = from_offset(at, cells);
             let form = structure_form(source.kind, &source.form, heading, bytes);
-            if let Some(fault) = short_structure(text, place, cells, next, at, form) {
+            if let Some(fault) = short_structure(text, place, no_length, cells, next, at, form) {
                 return Some(fault);
             }
             if let Some(fault) = short_of_form(text, form, cells, next) {
@@ -196,32 +225,26 @@ fn short_in(source: &Source, place: Place, cells: &[Cell], marks: &[Mark]) -> Op
 }
 
 // Returns the fault of a table that lacks fields before its structures.
-fn short_table(
-    file_kind: FileKind,
-    source: &Source,
-    cells: &[Cell],
-    marks: &[Mark],
-) -> Option<Fault>
-    ensures { fault_in result ≡ short_table file_kind (source_of source.now) cells.now marks.now }
+fn short_table(no_length: bool, source: &Source, cells: &[Cell], marks: &[Mark]) -> Option<Fault>
+    ensures { fault_in result ≡ short_table no_length (source_of source.now) cells.now marks.now }
 {
-    let offset = length_own(file_kind, cells.len()).offset;
-    if any_left(4, from_offset(offset, cells)) {
+    if no_length {
         let lines = Lines {
             text: source.text,
             lists: lists_of(source.form.inner),
             marks,
             parts: source.form.parts,
+            cells,
             total: cells.len(),
         };
-        let size = next_start(marks, cells.len());
-        short_of(&lines, size)
+        short_of(&lines, 0, next_start(marks, cells.len()))
     } else {
         None
     }
 }
 
 /// Returns the fault of a table, or of the first of its structures and of those within them, that lacks fields, and whose length
-/// the text leaves out.
+/// the text leaves out. A structure without a length lacks fields if the table's length is left out.
 pub fn short(
     file_kind: FileKind,
     walk: Option<Walk>,
@@ -231,11 +254,12 @@ pub fn short(
     ensures { fault_in result ≡ short file_kind walk (source_of source.now) (drafted draft.now) }
 {
     let (cells, marks) = (&draft.cells, &draft.marks);
+    let no_length = leaves_out_table_length(file_kind, cells);
     first_of(
-        short_table(file_kind, source, cells, marks),
+        short_table(no_length, source, cells, marks),
         first_of(
             short_within(source.text, source.form.inner, cells, marks),
-            short_in(source, size_place(walk), cells, marks),
+            short_in(source, size_place(walk), no_length, cells, marks),
         ),
     )
 }
