@@ -1,5 +1,5 @@
 -- What is in a descriptor: bits, numbers, offsets and texts.
-use Rattle.std.specs.Prelude.{ℕ, zero, suc, ◌+◌, ◌-◌, ◌*◌, ◌/◌, ◌%◌, nat_lt, ◌==◌, ◌&&◌, ◌||◌, not, Bool, true, false}
+use Rattle.std.specs.Prelude.{ℕ, zero, suc, ◌+◌, ◌-◌, ◌*◌, ◌/◌, ◌%◌, nat_lt, nat_le, ◌==◌, ◌&&◌, ◌||◌, not, Bool, true, false}
 use Rattle.std.specs.Prelude.{if◌then◌else◌, List, [], ◌∷◌, ◌++◌, length, take, drop, slice_index_or}
 use Rattle.acpi_asl.specs.declared.descriptor.Bits.{Bits}
 use Rattle.acpi_asl.specs.declared.descriptor.Offset.{Offset}
@@ -53,6 +53,7 @@ abbrev pub offset_of : List ℕ → Offset → ℕ
 offset_of item (offsets.At offset) = offset
 offset_of item (offsets.Stated offset) = word_at item offset
 offset_of item offsets.Entries = 5 + 4 * slice_index_or item 4 0
+offset_of item offsets.BusData = 12 + word_at item 10
 offset_of item offsets.End = length item
 
 -- the bytes from one offset to another
@@ -84,7 +85,8 @@ source_at item at = drop (offset_of item at + 1) item
 abbrev pub holds : List ℕ → Check → Bool
 holds item (checks.Is x value) = value_of item x == value
 holds item (checks.Nonzero x) = not (value_of item x == 0)
-holds item (checks.Size offset) = word_at item offset == length item
+holds item (checks.Vendor offset) = word_at item offset + word_at item (offset + 2) == length item
+holds item (checks.AtLeast offset n) = nat_le n (word_at item offset)
 holds item (checks.Pairs from to) =
     nat_lt (offset_of item from) (offset_of item to) && (offset_of item to - offset_of item from) % 2 == 0
 holds item (checks.Text from to) = ends_in_zero (between item from to)

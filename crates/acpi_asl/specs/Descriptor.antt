@@ -61,6 +61,8 @@ words kinds.Endianness = (0, codes "LittleEndian") ∷ (1, codes "BigEndian") �
 words kinds.Parity = (0, codes "ParityTypeNone") ∷ (1, codes "ParityTypeEven") ∷ (2, codes "ParityTypeOdd")
     ∷ (3, codes "ParityTypeMark") ∷ (4, codes "ParityTypeSpace") ∷ []
 words kinds.FlowControl = (0, codes "FlowControlNone") ∷ (1, codes "FlowControlHardware") ∷ (2, codes "FlowControlXON") ∷ []
+words kinds.ClockMode = (0, codes "Fixed") ∷ (1, codes "Variable") ∷ []
+words kinds.ClockScale = (0, codes "Hz") ∷ (1, codes "KHz") ∷ (2, codes "MHz") ∷ []
 
 -- ---- rows
 
@@ -71,6 +73,10 @@ bits offset shift size = record { offset = offset; shift = shift; size = size }
 -- the word of these bits
 abbrev pub word : ℕ → ℕ → ℕ → WordKind → Part
 word offset shift size kind = parts.Word (bits offset shift size) kind
+
+-- the word of the byte at an offset, or its number if a vendor defines it
+abbrev pub word_or_number : ℕ → WordKind → Part
+word_or_number offset kind = parts.WordOrNumber (bits offset 0 8) kind
 
 -- these bits are zero
 abbrev pub clear : ℕ → ℕ → ℕ → Check
@@ -158,13 +164,12 @@ attributes = parts.Number 48 8 ∷ []
 
 -- ---- connections to GPIO pins (6.4.3.8.1) of a type, and descriptors of pins (6.4.3.9 to 6.4.3.13)
 
--- Between the pins, the names and the end, where a vendor's data would begin, there is nothing else: the pins begin after n
--- bytes, and the two bytes at an offset say so. So do the next ones for the names and the vendor's data, which is empty.
+-- Between the pins, the names and a vendor's data there is nothing else: the pins begin after n bytes, and the two bytes at an
+-- offset say so. So do the next ones for the names and the vendor's data, and those after these for the length of this data.
 abbrev pub pins_of : ℕ → ℕ → ℕ → ℕ → List Check
 pins_of n table name vendor =
     byte table n ∷ byte (table + 1) 0 ∷ checks.Pairs (offsets.At n) (offsets.Stated name)
-    ∷ checks.Text (offsets.Stated name) (offsets.Stated vendor) ∷ checks.Size vendor ∷ byte (vendor + 2) 0
-    ∷ byte (vendor + 3) 0 ∷ []
+    ∷ checks.Text (offsets.Stated name) (offsets.Stated vendor) ∷ checks.Vendor vendor ∷ []
 
 abbrev pub connection_of : ℕ → List Check → List Check
 connection_of kind own = byte 0 0x8c ∷ byte 3 1 ∷ byte 4 kind ∷ clear 5 1 8 ∷ byte 6 0 ∷ own ++ pins_of 23 14 17 19
@@ -173,17 +178,20 @@ connection_of kind own = byte 0 0x8c ∷ byte 3 1 ∷ byte 4 kind ∷ clear 5 1 
 abbrev pub controller : ℕ → ℕ → ℕ → List Part
 controller name vendor index = parts.Text (offsets.Stated name) (offsets.Stated vendor) ∷ parts.Number index 1 ∷ []
 
--- the names of a controller and of a group: from n on, where the two bytes at an offset say so
+-- The names of a controller and of a group: from n on, where the two bytes at an offset say so. A vendor's data follows them.
 abbrev pub group_of : ℕ → ℕ → List Check
 group_of n name =
     byte name n ∷ byte (name + 1) 0 ∷ checks.Text (offsets.At n) (offsets.Stated (name + 2))
-    ∷ checks.Text (offsets.Stated (name + 2)) (offsets.Stated (name + 4)) ∷ checks.Size (name + 4) ∷ byte (name + 6) 0
-    ∷ byte (name + 7) 0 ∷ []
+    ∷ checks.Text (offsets.Stated (name + 2)) (offsets.Stated (name + 4)) ∷ checks.Vendor (name + 4) ∷ []
 
 abbrev pub group_parts : ℕ → ℕ → List Part
 group_parts n name =
     parts.Text (offsets.At n) (offsets.Stated (name + 2)) ∷ parts.Number (name - 1) 1
     ∷ parts.Text (offsets.Stated (name + 2)) (offsets.Stated (name + 4)) ∷ []
+
+-- the vendor's data, whose offset is in the two bytes at another
+abbrev pub vendor_at : ℕ → Part
+vendor_at offset = parts.Vendor (offsets.Stated offset) offsets.End
 
 abbrev pub pins_tail : ℕ → ℕ → Braces
 pins_tail n name = tails.Pairs (offsets.At n) (offsets.Stated name)
@@ -194,21 +202,25 @@ pins_tail n name = tails.Pairs (offsets.At n) (offsets.Stated name)
 abbrev pub initiator : Part
 initiator = word 6 0 1 kinds.Initiator
 
--- a bus of this number, of a revision, whose data has n bytes, and no vendor's data
+-- a bus of this number, of a revision, whose own data has n bytes; a vendor's data may follow it
 abbrev pub bus_of : ℕ → ℕ → ℕ → List Check → List Check
 bus_of revision bus n own =
-    byte 0 0x8e ∷ byte 3 revision ∷ byte 5 bus ∷ byte 8 0 ∷ byte 9 1 ∷ byte 10 n ∷ byte 11 0
-    ∷ checks.Text (offsets.At (12 + n)) offsets.End ∷ own
+    byte 0 0x8e ∷ byte 3 revision ∷ byte 5 bus ∷ byte 8 0 ∷ byte 9 1 ∷ checks.AtLeast 10 n
+    ∷ checks.Text offsets.BusData offsets.End ∷ own
 
--- The controller's name and index, the usage, and two arguments that are left out.
+-- the vendor's data of a bus whose own data has n bytes
+abbrev pub bus_vendor : ℕ → Part
+bus_vendor n = parts.Vendor (offsets.At (12 + n)) offsets.BusData
+
+-- the controller's name and index, the usage, the descriptor's name, which is left out, and the vendor's data
 abbrev pub bus_end : ℕ → List Part
 bus_end n =
-    parts.Text (offsets.At (12 + n)) offsets.End ∷ parts.Number 4 1 ∷ word 6 1 1 kinds.Usage ∷ parts.Blank ∷ parts.Blank ∷ []
+    parts.Text offsets.BusData offsets.End ∷ parts.Number 4 1 ∷ word 6 1 1 kinds.Usage ∷ parts.Blank ∷ bus_vendor n ∷ []
 
 -- the same with the flag whether the connection is shared, which revision 2 has
 abbrev pub bus_end_2 : ℕ → List Part
-bus_end_2 n = parts.Text (offsets.At (12 + n)) offsets.End ∷ parts.Number 4 1 ∷ word 6 1 1 kinds.Usage ∷ parts.Blank
-    ∷ word 6 2 1 kinds.Sharing ∷ parts.Blank ∷ []
+bus_end_2 n = parts.Text offsets.BusData offsets.End ∷ parts.Number 4 1 ∷ word 6 1 1 kinds.Usage ∷ parts.Blank
+    ∷ word 6 2 1 kinds.Sharing ∷ bus_vendor n ∷ []
 
 abbrev pub i2c_parts : List Part → List Part
 i2c_parts end = parts.Number 16 2 ∷ initiator ∷ parts.Number 12 4 ∷ word 7 0 1 kinds.AddressingMode ∷ end
@@ -262,7 +274,7 @@ facts items.Memory24 = row (codes "Memory24")
     parts.Tag 4 4 10 2 ∷ [])
     (byte 0 0x81 ∷ byte 1 9 ∷ byte 2 0 ∷ clear 3 1 8 ∷ []) tails.Absent
 facts items.Register = row (codes "Register")
-    (word 3 0 8 kinds.Space ∷ parts.Number 4 1 ∷ parts.Number 5 1 ∷ parts.Number 7 8 ∷ parts.Number 6 1 ∷ [])
+    (word_or_number 3 kinds.Space ∷ parts.Number 4 1 ∷ parts.Number 5 1 ∷ parts.Number 7 8 ∷ parts.Number 6 1 ∷ [])
     (byte 0 0x82 ∷ byte 1 12 ∷ byte 2 0 ∷ []) tails.Absent
 facts items.VendorLong = row (codes "VendorLong")
     ([])
@@ -298,16 +310,17 @@ facts items.ExtendedMemory = row (codes "ExtendedMemory") (memory_parts 8 8 attr
 facts items.ExtendedIo = row (codes "ExtendedIO") (io_parts 8 8 attributes) (extended_of io_checks) tails.Absent
 facts items.ExtendedSpace = row (codes "ExtendedSpace") (space_parts 8 8 attributes) (extended_of space_checks) tails.Absent
 facts items.GpioInt = row (codes "GpioInt")
-    (word 7 0 1 kinds.Mode ∷ word 7 1 2 kinds.Levels ∷ word 7 3 2 kinds.Sharing ∷ word 9 0 8 kinds.PinConfig
-    ∷ parts.Number 12 2 ∷ controller 17 19 16 ++ word 5 0 1 kinds.Usage ∷ parts.Blank ∷ parts.Blank ∷ [])
+    (word 7 0 1 kinds.Mode ∷ word 7 1 2 kinds.Levels ∷ word 7 3 2 kinds.Sharing
+    ∷ word_or_number 9 kinds.PinConfig ∷ parts.Number 12 2
+    ∷ controller 17 19 16 ++ word 5 0 1 kinds.Usage ∷ parts.Blank ∷ vendor_at 19 ∷ [])
     (connection_of 0 (clear 7 5 8 ∷ byte 8 0 ∷ byte 10 0 ∷ byte 11 0 ∷ [])) (pins_tail 23 17)
 facts items.GpioIo = row (codes "GpioIo")
-    (word 7 3 2 kinds.Sharing ∷ word 9 0 8 kinds.PinConfig ∷ parts.Number 12 2 ∷ parts.Number 10 2
-    ∷ word 7 0 2 kinds.Restriction ∷ controller 17 19 16 ++ word 5 0 1 kinds.Usage ∷ parts.Blank ∷ parts.Blank ∷ [])
+    (word 7 3 2 kinds.Sharing ∷ word_or_number 9 kinds.PinConfig ∷ parts.Number 12 2 ∷ parts.Number 10 2
+    ∷ word 7 0 2 kinds.Restriction ∷ controller 17 19 16 ++ word 5 0 1 kinds.Usage ∷ parts.Blank ∷ vendor_at 19 ∷ [])
     (connection_of 1 (clear 7 2 1 ∷ clear 7 5 8 ∷ byte 8 0 ∷ [])) (pins_tail 23 17)
 facts items.PinFunction = row (codes "PinFunction")
-    (word 4 0 1 kinds.Sharing ∷ word 6 0 8 kinds.PinConfig ∷ parts.Number 7 2
-    ∷ controller 12 14 11 ++ parts.Blank ∷ parts.Blank ∷ parts.Blank ∷ [])
+    (word 4 0 1 kinds.Sharing ∷ word_or_number 6 kinds.PinConfig ∷ parts.Number 7 2
+    ∷ controller 12 14 11 ++ parts.Blank ∷ parts.Blank ∷ vendor_at 14 ∷ [])
     (byte 0 0x8d ∷ byte 3 1 ∷ clear 4 1 8 ∷ byte 5 0 ∷ pins_of 18 9 12 14) (pins_tail 18 12)
 facts items.I2cBus2 = row (codes "I2cSerialBusV2") (i2c_parts (bus_end_2 6))
     (bus_of 2 1 6 (clear 6 3 8 ∷ clear 7 1 8 ∷ [])) tails.Absent
@@ -319,20 +332,26 @@ facts items.SpiBus = row (codes "SpiSerialBus") (spi_parts (bus_end 9))
     (bus_of 1 2 9 (clear 6 2 8 ∷ clear 7 2 8 ∷ [])) tails.Absent
 facts items.UartBus2 = row (codes "UartSerialBusV2") (uart_parts (bus_end_2 10)) (bus_of 2 3 10 (clear 6 3 8 ∷ [])) tails.Absent
 facts items.UartBus = row (codes "UartSerialBus") (uart_parts (bus_end 10)) (bus_of 1 3 10 (clear 6 2 8 ∷ [])) tails.Absent
+facts items.Csi2Bus = row (codes "Csi2Bus")
+    (initiator ∷ parts.Bits (bits 7 0 2) ∷ parts.Bits (bits 7 2 8) ∷ bus_end 0) (bus_of 1 4 0 (clear 6 2 8 ∷ [])) tails.Absent
 facts items.PinConfig = row (codes "PinConfig")
     (word 4 0 1 kinds.Sharing ∷ parts.Number 6 1 ∷ parts.Number 7 4
-    ∷ controller 14 16 13 ++ word 4 1 1 kinds.Usage ∷ parts.Blank ∷ parts.Blank ∷ [])
+    ∷ controller 14 16 13 ++ word 4 1 1 kinds.Usage ∷ parts.Blank ∷ vendor_at 16 ∷ [])
     (byte 0 0x8f ∷ byte 3 1 ∷ clear 4 2 8 ∷ byte 5 0 ∷ pins_of 20 11 14 16) (pins_tail 20 14)
 facts items.PinGroup = row (codes "PinGroup")
-    (parts.Text (offsets.Stated 8) (offsets.Stated 10) ∷ word 4 0 1 kinds.Usage ∷ parts.Blank ∷ parts.Blank ∷ [])
+    (parts.Text (offsets.Stated 8) (offsets.Stated 10) ∷ word 4 0 1 kinds.Usage ∷ parts.Blank ∷ vendor_at 10 ∷ [])
     (byte 0 0x90 ∷ byte 3 1 ∷ clear 4 1 8 ∷ byte 5 0 ∷ pins_of 14 6 8 10) (pins_tail 14 8)
 facts items.PinGroupFunction = row (codes "PinGroupFunction")
-    (word 4 0 1 kinds.Sharing ∷ parts.Number 6 2 ∷ group_parts 17 9 ++ word 4 1 1 kinds.Usage ∷ parts.Blank ∷ parts.Blank ∷ [])
+    (word 4 0 1 kinds.Sharing ∷ parts.Number 6 2 ∷ group_parts 17 9 ++ word 4 1 1 kinds.Usage ∷ parts.Blank ∷ vendor_at 13 ∷ [])
     (byte 0 0x91 ∷ byte 3 1 ∷ clear 4 2 8 ∷ byte 5 0 ∷ group_of 17 9) tails.Absent
 facts items.PinGroupConfig = row (codes "PinGroupConfig")
     (word 4 0 1 kinds.Sharing ∷ parts.Number 6 1 ∷ parts.Number 7 4
-    ∷ group_parts 20 12 ++ word 4 1 1 kinds.Usage ∷ parts.Blank ∷ parts.Blank ∷ [])
+    ∷ group_parts 20 12 ++ word 4 1 1 kinds.Usage ∷ parts.Blank ∷ vendor_at 16 ∷ [])
     (byte 0 0x92 ∷ byte 3 1 ∷ clear 4 2 8 ∷ byte 5 0 ∷ group_of 20 12) tails.Absent
+facts items.ClockInput = row (codes "ClockInput")
+    (parts.Number 8 4 ∷ parts.Number 6 2 ∷ word 4 1 2 kinds.ClockScale ∷ word 4 0 1 kinds.ClockMode
+    ∷ parts.Source (offsets.At 12) ∷ parts.Index (offsets.At 12) ∷ [])
+    (byte 0 0x93 ∷ byte 3 1 ∷ clear 4 3 8 ∷ byte 5 0 ∷ checks.Source (offsets.At 12) ∷ []) tails.Absent
 
 abbrev pub descriptors : List Descriptor
 descriptors =
@@ -341,5 +360,5 @@ descriptors =
     ∷ items.Memory32 ∷ items.Memory32Fixed ∷ items.DwordMemory ∷ items.DwordIo ∷ items.DwordSpace ∷ items.WordIo ∷ items.WordBus
     ∷ items.WordSpace ∷ items.Interrupt ∷ items.QwordMemory ∷ items.QwordIo ∷ items.QwordSpace ∷ items.ExtendedMemory
     ∷ items.ExtendedIo ∷ items.ExtendedSpace ∷ items.GpioInt ∷ items.GpioIo ∷ items.PinFunction ∷ items.I2cBus2 ∷ items.I2cBus
-    ∷ items.SpiBus2 ∷ items.SpiBus ∷ items.UartBus2 ∷ items.UartBus ∷ items.PinConfig ∷ items.PinGroup ∷ items.PinGroupFunction
-    ∷ items.PinGroupConfig ∷ []
+    ∷ items.SpiBus2 ∷ items.SpiBus ∷ items.UartBus2 ∷ items.UartBus ∷ items.Csi2Bus ∷ items.PinConfig ∷ items.PinGroup
+    ∷ items.PinGroupFunction ∷ items.PinGroupConfig ∷ items.ClockInput ∷ []

@@ -18,10 +18,9 @@ second b c d = if b == 95 && c == 95 && d == 95 then [] else printable b ∷ thi
 -- Segments that keep their underscores: without them they would be words of ASL (ACPI 6.5, 19.2.5 and 19.2.7). All end with one.
 abbrev pub kept_segments : List (List ℕ)
 kept_segments =
-    codes "IF__" ∷ codes "OR__" ∷ codes "ADD_" ∷ codes "AND_" ∷ codes "FOR_" ∷ codes "LOR_" ∷ codes "MEQ_" ∷ codes "MGE_"
-    ∷ codes "MGT_" ∷ codes "MID_" ∷ codes "MLE_" ∷ codes "MLT_" ∷ codes "MOD_" ∷ codes "MTR_" ∷ codes "NOR_" ∷ codes "NOT_"
-    ∷ codes "ONE_"
-    ∷ codes "PCC_" ∷ codes "XOR_" ∷ []
+    codes "HZ__" ∷ codes "IF__" ∷ codes "OR__" ∷ codes "ADD_" ∷ codes "AND_" ∷ codes "FOR_" ∷ codes "KHZ_" ∷ codes "LOR_"
+    ∷ codes "MEQ_" ∷ codes "MGE_" ∷ codes "MGT_" ∷ codes "MHZ_" ∷ codes "MID_" ∷ codes "MLE_" ∷ codes "MLT_" ∷ codes "MOD_"
+    ∷ codes "MTR_" ∷ codes "NOR_" ∷ codes "NOT_" ∷ codes "ONE_" ∷ codes "PCC_" ∷ codes "XOR_" ∷ []
 
 abbrev pub is_among : List (List ℕ) → List ℕ → Bool
 is_among [] s = false

@@ -1,5 +1,5 @@
 -- Resource templates (ACPI 6.5, 6.4 and 19.6.117): buffers whose bytes are descriptors that have macros, and the end tag.
-use Rattle.std.specs.Prelude.{ℕ, zero, suc, ◌+◌, ◌-◌, ◌*◌, ◌/◌, ◌%◌, nat_lt, ◌==◌, ◌&&◌, ◌||◌, not, Bool, true, false}
+use Rattle.std.specs.Prelude.{ℕ, zero, suc, ◌+◌, ◌-◌, ◌*◌, ◌/◌, ◌%◌, nat_lt, nat_le, ◌==◌, ◌&&◌, ◌||◌, not, Bool, true, false}
 use Rattle.std.specs.Prelude.{if◌then◌else◌, Option, Some, None, List, [], ◌∷◌, ◌++◌, length, take, slice_index_or, codes}
 use Rattle.std.specs.Fmt.{decimal}
 use Rattle.acpi_asl.specs.declared.descriptor.Part.{Part}
@@ -17,26 +17,44 @@ use Rattle.acpi_terms_text.specs.Descriptor.{item_size}
 
 -- ---- the arguments of a macro
 
+-- the comma before an argument
+abbrev pub comma : Bool → List ℕ
+comma first = if first then [] else codes ", "
+
 -- A name of four characters, by a number: that of the template's tags, and how many bytes of the template begin with the item. So
 -- no two items of a template have the same.
 abbrev pub tag_text : ℕ → List ℕ
 tag_text n = 0x59 ∷ upper_digit (n / 256 % 16) ∷ upper_digit (n / 16 % 16) ∷ upper_digit (n % 16) ∷ []
 
+-- bytes
+abbrev pub listed_bytes : Bool → List ℕ → List ℕ
+listed_bytes first [] = []
+listed_bytes first (b ∷ bytes) = (comma first ++ hex 1 b) ++ listed_bytes false bytes
+
+-- the word of a number; from 0x80 on, where vendors define the numbers, the number
+abbrev pub word_or_number : List (ℕ × List ℕ) → ℕ → List ℕ
+word_or_number words b = if nat_lt b 128 then word_in words b else hex 1 b
+
+-- a vendor's data, if there is any
+abbrev pub vendor_text : List ℕ → List ℕ
+vendor_text [] = []
+vendor_text (b ∷ bytes) =
+    codes "RawDataBuffer (" ++ (hex 2 (length (b ∷ bytes)) ++ (codes ") {" ++ (listed_bytes true (b ∷ bytes) ++ codes "}")))
+
 -- The text of an argument; n is the number of a tag. A compiler accepts a range that is zero, which is set when the code runs,
 -- only if its descriptor has a tag.
 abbrev pub part_text : List ℕ → ℕ → Part → List ℕ
 part_text item n (parts.Word x kind) = word_in (words kind) (value_of item x)
+part_text item n (parts.WordOrNumber x kind) = word_or_number (words kind) (value_of item x)
+part_text item n (parts.Bits x) = hex 1 (value_of item x)
 part_text item n (parts.Number offset w) = codes "0x" ++ digits_at w offset item
 part_text item n parts.Blank = []
 part_text item n (parts.Tag a k b m) = if are_zero item a k && are_zero item b m then tag_text n else []
 part_text item n (parts.Text from to) = string_text (up_to_zero (between item from to))
+part_text item n (parts.Vendor from to) = vendor_text (between item from to)
 part_text item n (parts.Index at) =
     if offset_of item at == length item then [] else hex 1 (slice_index_or item (offset_of item at) 0)
 part_text item n (parts.Source at) = if offset_of item at == length item then [] else string_text (up_to_zero (source_at item at))
-
--- the comma before an argument
-abbrev pub comma : Bool → List ℕ
-comma first = if first then [] else codes ", "
 
 abbrev pub parts_text : List ℕ → ℕ → Bool → List Part → List ℕ
 parts_text item n first [] = []
@@ -60,11 +78,6 @@ abbrev pub pairs : Bool → List ℕ → List ℕ
 pairs first (a ∷ b ∷ rest) = (comma first ++ (codes "0x" ++ digits_at 2 0 (a ∷ b ∷ rest))) ++ pairs false rest
 pairs first _ = []
 
--- bytes
-abbrev pub listed_bytes : Bool → List ℕ → List ℕ
-listed_bytes first [] = []
-listed_bytes first (b ∷ bytes) = (comma first ++ hex 1 b) ++ listed_bytes false bytes
-
 abbrev pub list_text : Braces → List ℕ → List ℕ
 list_text tails.Absent item = []
 list_text tails.Irqs item = channels true 0 16 (slice_index_or item 1 0 + 256 * slice_index_or item 2 0)
@@ -87,6 +100,8 @@ row_text r n item = r.macro ++ codes " (" ++ parts_text item n true r.parts ++ c
 
 abbrev pub part_fits : List ℕ → Part → Bool
 part_fits item (parts.Word x kind) = not (length (word_in (words kind) (value_of item x)) == 0)
+part_fits item (parts.WordOrNumber x kind) =
+    nat_le 128 (value_of item x) || not (length (word_in (words kind) (value_of item x)) == 0)
 part_fits item _ = true
 
 -- whether the bits of each word have one

@@ -84,7 +84,7 @@ pub fn push_number_at(
 }
 
 // The number of two bytes at an offset.
-fn word_at(item: &[u8], offset: u8) -> usize
+fn word_at(item: &[u8], offset: u16) -> usize
     ensures is { result ≡ word_at item.now offset }
     ensures small { result ≤ 65535 }
 {
@@ -98,8 +98,9 @@ pub fn offset_of(item: &[u8], offset: Offset) -> usize
 {
     match offset {
         Offset::At(offset) => usize::from(offset),
-        Offset::Stated(at) => word_at(item, at),
+        Offset::Stated(at) => word_at(item, u16::from(at)),
         Offset::Entries => 5 + 4 * usize::from(byte_at(item, 4)),
+        Offset::BusData => 12 + word_at(item, 10),
         Offset::End => item.len(),
     }
 }
@@ -184,13 +185,21 @@ fn has_pairs(item: &[u8], from: Offset, to: Offset) -> bool
     from < to && (to - from) % 2 == 0
 }
 
+fn ends_at(item: &[u8], at: u8) -> bool
+    ensures { result ≡ holds item.now (checks.Vendor at) }
+{
+    let at = u16::from(at);
+    word_at(item, at) + word_at(item, at + 2) == item.len()
+}
+
 fn holds(item: &[u8], check: Check) -> bool
     ensures { result ≡ holds item.now check }
 {
     match check {
         Check::Is(bits, value) => value_of(item, bits) == value,
         Check::Nonzero(bits) => value_of(item, bits) != 0,
-        Check::Size(at) => word_at(item, at) == item.len(),
+        Check::Vendor(at) => ends_at(item, at),
+        Check::AtLeast(at, n) => usize::from(n) <= word_at(item, u16::from(at)),
         Check::Pairs(from, to) => has_pairs(item, from, to),
         Check::Text(from, to) => ends_in_zero(between(item, from, to)),
         Check::Source(at) => {

@@ -43,6 +43,8 @@ pub enum WordKind {
     Endianness,
     Parity,
     FlowControl,
+    ClockMode,
+    ClockScale,
 }
 
 /// Bits of the byte at an offset.
@@ -63,6 +65,8 @@ pub enum Offset {
     Stated(u8),
     /// After the numbers of four bytes from the byte at 5 on. The byte at 4 says how many there are.
     Entries,
+    /// After the data of a serial bus and of its vendor, which begin at 12. The two bytes at 10 say how many there are.
+    BusData,
     /// The end of the descriptor.
     End,
 }
@@ -71,6 +75,10 @@ pub enum Offset {
 #[derive(Clone, Copy, Debug)]
 pub enum Part {
     Word(Bits, WordKind),
+    /// The same, but from 0x80 on, where vendors define the numbers, the number that the bits are.
+    WordOrNumber(Bits, WordKind),
+    /// The number that bits are.
+    Bits(Bits),
     /// The offset of a number, and how many bytes it has.
     Number(u8, u8),
     /// An argument that is left out.
@@ -79,6 +87,8 @@ pub enum Part {
     Tag(u8, u8, u8, u8),
     /// The characters from one offset to another, up to the first zero.
     Text(Offset, Offset),
+    /// A vendor's data: the bytes from one offset to another, if there are any.
+    Vendor(Offset, Offset),
     /// The index of a resource source, if the descriptor doesn't end at this offset.
     Index(Offset),
     /// The name of a resource source, which follows its index, if the descriptor doesn't end at this offset.
@@ -92,8 +102,11 @@ pub enum Check {
     Is(Bits, u8),
     /// Bits aren't zero.
     Nonzero(Bits),
-    /// The two bytes at an offset are the size of the descriptor.
-    Size(u8),
+    /// The descriptor ends with a vendor's data: the sum of the number in the two bytes at an offset, which says where the data
+    /// begins, and of the number in the next two, which says how many bytes it has, is the size of the descriptor.
+    Vendor(u8),
+    /// The number in the two bytes at an offset isn't less than another.
+    AtLeast(u8, u8),
     /// There are one or more numbers of two bytes from one offset to another.
     Pairs(Offset, Offset),
     /// From one offset to another there are ASCII characters, and then one zero as the last byte.
@@ -220,5 +233,7 @@ pub fn words(kind: WordKind) -> &'static [(u8, &'static str)]
             (1, "FlowControlHardware"),
             (2, "FlowControlXON"),
         ],
+        WordKind::ClockMode => &[(0, "Fixed"), (1, "Variable")],
+        WordKind::ClockScale => &[(0, "Hz"), (1, "KHz"), (2, "MHz")],
     }
 }

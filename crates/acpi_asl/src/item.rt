@@ -1,11 +1,11 @@
 //! The macros of resource descriptors. A function whose name begins with `push` adds to a text.
 
 ghost use Rattle.std.specs.Prelude.{◌≡◌, ℕ, ◌+◌, ◌*◌, ◌≤◌, ◌++◌, ◌==◌, true, codes, slice_index_or, if◌then◌else◌, List, ◌∷◌, []};
-ghost use Rattle.std.specs.Prelude.{length, take, drop, OnOk, string_bytes};
+ghost use Rattle.std.specs.Prelude.{length, map, take, drop, OnOk, string_bytes};
 ghost use Rattle.acpi_asl.specs.Content.{value_of, offset_of, up_to_zero, source_at};
 ghost use Rattle.acpi_asl.specs.Descriptor.{words, facts, descriptors};
 ghost use Rattle.acpi_asl.specs.Number.{hex, string_text};
-ghost use Rattle.acpi_asl.specs.Template.{tag_text, part_text, comma, parts_text, row_text};
+ghost use Rattle.acpi_asl.specs.Template.{tag_text, word_or_number, vendor_text, part_text, comma, parts_text, row_text};
 ghost use Rattle.acpi_terms_text.specs.Descriptor.{item_size};
 ghost use Rattle.acpi_asl.specs.Template.{part_fits, parts_fit, fits, found_in, found, is_found, found_text};
 ghost use Rattle.acpi_terms_text.specs.Word.{word_in};
@@ -15,7 +15,7 @@ use crate::content::{
     value_of,
 };
 use crate::descriptor::{Bits, Offset, Part, WordKind, words};
-use crate::list::{push_comma, push_tail};
+use crate::list::{push_bytes, push_comma, push_tail};
 use crate::macros::{Descriptor, checks_left, descriptors, macro_opening, parts, tail};
 use crate::number::{push_hex, push_string, upper_digit};
 use acpi_terms_text::descriptor::item_size;
@@ -70,15 +70,52 @@ fn push_source(item: &[u8], at: Offset, text: &mut String) -> Result<(), AllocEr
     push_string(up_to_zero(source_at(item, at)), text)
 }
 
+// Adds the word of a number, or the number if a vendor defines it.
+fn push_word_or_number(
+    words: &[(u8, &'static str)],
+    number: u8,
+    text: &mut String,
+) -> Result<(), AllocError>
+    ensures { OnOk result (string_bytes text.new ≡ string_bytes text.old
+        ++ word_or_number (map (λ row. (row.0, row.1.now)) words.now) number) }
+{
+    if number < 0x80 {
+        text.push_str(word_in(words, number))
+    } else {
+        push_hex(1, u64::from(number), text)
+    }
+}
+
+// Adds a vendor's data, if there is any.
+fn push_vendor(bytes: &[u8], text: &mut String) -> Result<(), AllocError>
+    ensures { OnOk result (string_bytes text.new ≡ string_bytes text.old ++ vendor_text bytes.now) }
+{
+    if bytes.is_empty() {
+        return Ok(());
+    }
+    text.push_str("RawDataBuffer (")?;
+    push_hex(2, bytes.len() as u64, text)?;
+    text.push_str(") {")?;
+    push_bytes(bytes, text)?;
+    text.push('}')
+}
+
 fn push_part(item: &[u8], n: usize, part: Part, text: &mut String) -> Result<(), AllocError>
     ensures { OnOk result (string_bytes text.new ≡ string_bytes text.old ++ part_text item.now n part) }
 {
     match part {
         Part::Word(bits, kind) => text.push_str(word_of(item, bits, kind)),
+        Part::WordOrNumber(bits, kind) => push_word_or_number(
+            words(kind),
+            value_of(item, bits),
+            text,
+        ),
+        Part::Bits(bits) => push_hex(1, u64::from(value_of(item, bits)), text),
         Part::Number(offset, width) => push_number_at(width, offset, item, text),
         Part::Blank => Ok(()),
         Part::Tag(a, k, b, m) => push_if(are_zero(item, a, k) && are_zero(item, b, m), n, text),
         Part::Text(from, to) => push_string(up_to_zero(between(item, from, to)), text),
+        Part::Vendor(from, to) => push_vendor(between(item, from, to), text),
         Part::Index(at) => push_index(item, at, text),
         Part::Source(at) => push_source(item, at, text),
     }
@@ -138,6 +175,9 @@ fn part_fits(item: &[u8], part: Part) -> bool
 {
     match part {
         Part::Word(bits, kind) => !word_of(item, bits, kind).is_empty(),
+        Part::WordOrNumber(bits, kind) => {
+            value_of(item, bits) >= 0x80 || !word_of(item, bits, kind).is_empty()
+        }
         _ => true,
     }
 }
@@ -166,7 +206,7 @@ fn fits(descriptor: Descriptor, tag: u8, item: &[u8]) -> bool
 
 // The place in the list of descriptors of the first one that can have this tag, or a place before it.
 fn start(tag: u8) -> usize
-    ensures within { result ≤ 40 }
+    ensures within { result ≤ 42 }
     ensures found { (item : List ℕ) → slice_index_or item 0 0 ≡ tag
         → found_in (drop result descriptors) item ≡ found_in descriptors item }
 {
@@ -192,10 +232,11 @@ fn start(tag: u8) -> usize
         0x8c => 28,
         0x8d => 30,
         0x8e => 31,
-        0x8f => 37,
-        0x90 => 38,
-        0x91 => 39,
-        0x92 => 40,
+        0x8f => 38,
+        0x90 => 39,
+        0x91 => 40,
+        0x92 => 41,
+        0x93 => 42,
         _ => 0,
     }
 }

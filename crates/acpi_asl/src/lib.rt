@@ -5,7 +5,7 @@ mod absent;
 pub mod asl;
 pub mod block;
 mod connection;
-mod content;
+pub mod content;
 pub mod descriptor;
 mod eisa;
 mod item;

@@ -8,8 +8,8 @@ ghost use Rattle.acpi_asl.specs.Descriptor.{facts, descriptors};
 use crate::content::shifted;
 use crate::descriptor::{Bits, Braces, Check, Offset, Part, WordKind};
 
-/// The descriptors that have macros here: those of ACPI 6.5, 6.4, but ClockInput and CSI2Bus. `I2cBus2`, `SpiBus2` and `UartBus2`
-/// are the descriptors of revision 2, which say whether the connection is shared.
+/// The descriptors that have macros: those of ACPI 6.5, 6.4. `I2cBus2`, `SpiBus2` and `UartBus2` are the descriptors of revision 2,
+/// which say whether the connection is shared.
 #[derive(Clone, Copy, Debug)]
 pub enum Descriptor {
     IrqNoFlags,
@@ -49,13 +49,15 @@ pub enum Descriptor {
     SpiBus,
     UartBus2,
     UartBus,
+    Csi2Bus,
     PinConfig,
     PinGroup,
     PinGroupFunction,
     PinGroupConfig,
+    ClockInput,
 }
 
-const DESCRIPTORS: [Descriptor; 41] = [
+const DESCRIPTORS: [Descriptor; 43] = [
     Descriptor::IrqNoFlags,
     Descriptor::Irq,
     Descriptor::Dma,
@@ -93,10 +95,12 @@ const DESCRIPTORS: [Descriptor; 41] = [
     Descriptor::SpiBus,
     Descriptor::UartBus2,
     Descriptor::UartBus,
+    Descriptor::Csi2Bus,
     Descriptor::PinConfig,
     Descriptor::PinGroup,
     Descriptor::PinGroupFunction,
     Descriptor::PinGroupConfig,
+    Descriptor::ClockInput,
 ];
 
 // Bits of the byte at an offset: the lowest of them, and how many there are.
@@ -114,6 +118,13 @@ macro_rules! bits {
 macro_rules! word {
     ($offset:literal, $shift:literal, $size:literal, $kind:ident) => {
         Part::Word(bits!($offset, $shift, $size), WordKind::$kind)
+    };
+}
+
+// The word of these bits, or their number if a vendor defines it.
+macro_rules! word_or_number {
+    ($offset:literal, $kind:ident) => {
+        Part::WordOrNumber(bits!($offset, 0, 8), WordKind::$kind)
     };
 }
 
@@ -241,9 +252,9 @@ macro_rules! space_checks {
 
 // ---- pins
 
-// The pins begin after `n` bytes, the controller's name follows them, and the descriptor ends after the name. The two bytes at
-// `table` are the offset of the pins, those at `name` that of the name, and those at `vendor` that of the vendor's data. There is
-// no vendor's data: its offset is the size of the descriptor, and its length, in the two bytes at `vendor` + 2, is zero.
+// The pins begin after `n` bytes, and the controller's name and a vendor's data follow them. The two bytes at `table` are the
+// offset of the pins, those at `name` that of the name, and those at `vendor` that of the vendor's data. The next two are how many
+// bytes the vendor's data has.
 macro_rules! pins {
     ([$($front:expr),*] $n:literal, $table:literal, $name:literal, $vendor:literal) => {
         &[
@@ -252,15 +263,13 @@ macro_rules! pins {
             byte!($table + 1, 0),
             Check::Pairs(Offset::At($n), Offset::Stated($name)),
             Check::Text(Offset::Stated($name), Offset::Stated($vendor)),
-            Check::Size($vendor),
-            byte!($vendor + 2, 0),
-            byte!($vendor + 3, 0),
+            Check::Vendor($vendor),
         ]
     };
 }
 
 // The names of a controller and of a group begin after `n` bytes. The two bytes at `name` are the offset of the controller's
-// name, the next two that of the group's name, and the next two that of the vendor's data, which is empty.
+// name, the next two that of the group's name, and the next four the offset and the length of a vendor's data.
 macro_rules! group {
     ([$($front:expr),*] $n:literal, $name:literal) => {
         &[
@@ -269,16 +278,15 @@ macro_rules! group {
             byte!($name + 1, 0),
             Check::Text(Offset::At($n), Offset::Stated($name + 2)),
             Check::Text(Offset::Stated($name + 2), Offset::Stated($name + 4)),
-            Check::Size($name + 4),
-            byte!($name + 6, 0),
-            byte!($name + 7, 0),
+            Check::Vendor($name + 4),
         ]
     };
 }
 
 // ---- connections to serial buses
 
-// What is checked of a bus of this number, of a revision, whose data has `n` bytes: there is no vendor's data.
+// What is checked of a bus of this number, of a revision, whose own data has `n` bytes. A vendor's data may follow it. The two
+// bytes at 10 are the number of bytes of both.
 macro_rules! bus {
     ($revision:literal, $bus:literal, $n:literal, [$($own:expr),*]) => {
         &[
@@ -287,24 +295,24 @@ macro_rules! bus {
             byte!(5, $bus),
             byte!(8, 0),
             byte!(9, 1),
-            byte!(10, $n),
-            byte!(11, 0),
-            Check::Text(Offset::At(12 + $n), Offset::End),
+            Check::AtLeast(10, $n),
+            Check::Text(Offset::BusData, Offset::End),
             $($own,)*
         ]
     };
 }
 
-// The arguments of a bus, and then the controller's name and index, the usage, and two arguments that are left out.
+// The arguments of a bus, and then the controller's name and index, the usage, the descriptor's name, which is left out, and the
+// vendor's data.
 macro_rules! bus_arguments {
     ($n:literal, [$($own:expr),*]) => {
         &[
             $($own,)*
-            Part::Text(Offset::At(12 + $n), Offset::End),
+            Part::Text(Offset::BusData, Offset::End),
             Part::Number(4, 1),
             word!(6, 1, 1, Usage),
             Part::Blank,
-            Part::Blank,
+            Part::Vendor(Offset::At(12 + $n), Offset::BusData),
         ]
     };
 }
@@ -314,12 +322,12 @@ macro_rules! bus_arguments_2 {
     ($n:literal, [$($own:expr),*]) => {
         &[
             $($own,)*
-            Part::Text(Offset::At(12 + $n), Offset::End),
+            Part::Text(Offset::BusData, Offset::End),
             Part::Number(4, 1),
             word!(6, 1, 1, Usage),
             Part::Blank,
             word!(6, 2, 1, Sharing),
-            Part::Blank,
+            Part::Vendor(Offset::At(12 + $n), Offset::BusData),
         ]
     };
 }
@@ -431,7 +439,7 @@ macro_rules! descriptors {
             Register {
                 "Register",
                 &[
-                    word!(3, 0, 8, Space), Part::Number(4, 1), Part::Number(5, 1), Part::Number(7, 8),
+                    word_or_number!(3, Space), Part::Number(4, 1), Part::Number(5, 1), Part::Number(7, 8),
                     Part::Number(6, 1),
                 ],
                 &[byte!(0, 0x82), byte!(1, 12), byte!(2, 0)],
@@ -540,9 +548,10 @@ macro_rules! descriptors {
             GpioInt {
                 "GpioInt",
                 &[
-                    word!(7, 0, 1, Mode), word!(7, 1, 2, Levels), word!(7, 3, 2, Sharing), word!(9, 0, 8, PinConfig),
-                    Part::Number(12, 2), Part::Text(Offset::Stated(17), Offset::Stated(19)), Part::Number(16, 1),
-                    word!(5, 0, 1, Usage), Part::Blank, Part::Blank,
+                    word!(7, 0, 1, Mode), word!(7, 1, 2, Levels), word!(7, 3, 2, Sharing),
+                    word_or_number!(9, PinConfig), Part::Number(12, 2),
+                    Part::Text(Offset::Stated(17), Offset::Stated(19)), Part::Number(16, 1), word!(5, 0, 1, Usage),
+                    Part::Blank, Part::Vendor(Offset::Stated(19), Offset::End),
                 ],
                 pins!(
                     [
@@ -556,9 +565,9 @@ macro_rules! descriptors {
             GpioIo {
                 "GpioIo",
                 &[
-                    word!(7, 3, 2, Sharing), word!(9, 0, 8, PinConfig), Part::Number(12, 2), Part::Number(10, 2),
+                    word!(7, 3, 2, Sharing), word_or_number!(9, PinConfig), Part::Number(12, 2), Part::Number(10, 2),
                     word!(7, 0, 2, Restriction), Part::Text(Offset::Stated(17), Offset::Stated(19)), Part::Number(16, 1),
-                    word!(5, 0, 1, Usage), Part::Blank, Part::Blank,
+                    word!(5, 0, 1, Usage), Part::Blank, Part::Vendor(Offset::Stated(19), Offset::End),
                 ],
                 pins!(
                     [
@@ -572,9 +581,9 @@ macro_rules! descriptors {
             PinFunction {
                 "PinFunction",
                 &[
-                    word!(4, 0, 1, Sharing), word!(6, 0, 8, PinConfig), Part::Number(7, 2),
+                    word!(4, 0, 1, Sharing), word_or_number!(6, PinConfig), Part::Number(7, 2),
                     Part::Text(Offset::Stated(12), Offset::Stated(14)), Part::Number(11, 1),
-                    Part::Blank, Part::Blank, Part::Blank,
+                    Part::Blank, Part::Blank, Part::Vendor(Offset::Stated(14), Offset::End),
                 ],
                 pins!([byte!(0, 0x8d), byte!(3, 1), clear!(4, 1, 8), byte!(5, 0)] 18, 9, 12, 14),
                 Braces::Pairs(Offset::At(18), Offset::Stated(12))
@@ -609,12 +618,21 @@ macro_rules! descriptors {
             UartBus {
                 "UartSerialBus", uart_parts!(bus_arguments), bus!(1, 3, 10, [clear!(6, 2, 8)]), Braces::Absent
             }
+            Csi2Bus {
+                "Csi2Bus",
+                bus_arguments!(
+                    0,
+                    [word!(6, 0, 1, Initiator), Part::Bits(bits!(7, 0, 2)), Part::Bits(bits!(7, 2, 8))]
+                ),
+                bus!(1, 4, 0, [clear!(6, 2, 8)]),
+                Braces::Absent
+            }
             PinConfig {
                 "PinConfig",
                 &[
                     word!(4, 0, 1, Sharing), Part::Number(6, 1), Part::Number(7, 4),
                     Part::Text(Offset::Stated(14), Offset::Stated(16)), Part::Number(13, 1),
-                    word!(4, 1, 1, Usage), Part::Blank, Part::Blank,
+                    word!(4, 1, 1, Usage), Part::Blank, Part::Vendor(Offset::Stated(16), Offset::End),
                 ],
                 pins!([byte!(0, 0x8f), byte!(3, 1), clear!(4, 2, 8), byte!(5, 0)] 20, 11, 14, 16),
                 Braces::Pairs(Offset::At(20), Offset::Stated(14))
@@ -623,7 +641,7 @@ macro_rules! descriptors {
                 "PinGroup",
                 &[
                     Part::Text(Offset::Stated(8), Offset::Stated(10)), word!(4, 0, 1, Usage),
-                    Part::Blank, Part::Blank,
+                    Part::Blank, Part::Vendor(Offset::Stated(10), Offset::End),
                 ],
                 pins!([byte!(0, 0x90), byte!(3, 1), clear!(4, 1, 8), byte!(5, 0)] 14, 6, 8, 10),
                 Braces::Pairs(Offset::At(14), Offset::Stated(8))
@@ -634,7 +652,7 @@ macro_rules! descriptors {
                     word!(4, 0, 1, Sharing), Part::Number(6, 2),
                     Part::Text(Offset::At(17), Offset::Stated(11)), Part::Number(8, 1),
                     Part::Text(Offset::Stated(11), Offset::Stated(13)), word!(4, 1, 1, Usage),
-                    Part::Blank, Part::Blank,
+                    Part::Blank, Part::Vendor(Offset::Stated(13), Offset::End),
                 ],
                 group!([byte!(0, 0x91), byte!(3, 1), clear!(4, 2, 8), byte!(5, 0)] 17, 9),
                 Braces::Absent
@@ -645,9 +663,18 @@ macro_rules! descriptors {
                     word!(4, 0, 1, Sharing), Part::Number(6, 1), Part::Number(7, 4),
                     Part::Text(Offset::At(20), Offset::Stated(14)), Part::Number(11, 1),
                     Part::Text(Offset::Stated(14), Offset::Stated(16)), word!(4, 1, 1, Usage),
-                    Part::Blank, Part::Blank,
+                    Part::Blank, Part::Vendor(Offset::Stated(16), Offset::End),
                 ],
                 group!([byte!(0, 0x92), byte!(3, 1), clear!(4, 2, 8), byte!(5, 0)] 20, 12),
+                Braces::Absent
+            }
+            ClockInput {
+                "ClockInput",
+                &[
+                    Part::Number(8, 4), Part::Number(6, 2), word!(4, 1, 2, ClockScale), word!(4, 0, 1, ClockMode),
+                    Part::Source(Offset::At(12)), Part::Index(Offset::At(12)),
+                ],
+                &[byte!(0, 0x93), byte!(3, 1), clear!(4, 3, 8), byte!(5, 0), Check::Source(Offset::At(12))],
                 Braces::Absent
             }
         }

@@ -50,9 +50,9 @@ fn push_second(b: u8, c: u8, d: u8, text: &mut String) -> Result<(), AllocError>
 }
 
 /// Segments that keep their underscores, since they would be words of ASL without them.
-const KEPT: [&str; 19] = [
-    "IF__", "OR__", "ADD_", "AND_", "FOR_", "LOR_", "MEQ_", "MGE_", "MGT_", "MID_", "MLE_", "MLT_",
-    "MOD_", "MTR_", "NOR_", "NOT_", "ONE_", "PCC_", "XOR_",
+const KEPT: [&str; 22] = [
+    "HZ__", "IF__", "OR__", "ADD_", "AND_", "FOR_", "KHZ_", "LOR_", "MEQ_", "MGE_", "MGT_", "MHZ_",
+    "MID_", "MLE_", "MLT_", "MOD_", "MTR_", "NOR_", "NOT_", "ONE_", "PCC_", "XOR_",
 ];
 
 fn is_among(words: &[&str], segment: &[u8]) -> bool

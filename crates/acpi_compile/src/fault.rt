@@ -73,6 +73,8 @@ pub enum Why {
     Values,
     /// A resource source has no index.
     Index,
+    /// The data of a vendor isn't a RawDataBuffer.
+    VendorData,
     /// A note isn't known, or not here.
     Note,
     /// A note has bytes that can't be read as terms.
@@ -180,7 +182,8 @@ impl Why {
             Why::Values => {
                 text.push_str("the descriptor can't have one of these values, or this list")
             }
-            Why::Index => text.push_str("a resource source needs an index before it"),
+            Why::Index => text.push_str("a resource source needs an index"),
+            Why::VendorData => text.push_str("a RawDataBuffer is expected"),
             Why::Note => text.push_str("the note isn't known here"),
             Why::Unread => text.push_str(
                 "these bytes can't be read as terms, so they make no block",

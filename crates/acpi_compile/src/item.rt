@@ -1,12 +1,15 @@
 //! Resource descriptors, made of their macros: the inverse of the tables that say how they are shown (ACPI 6.5, 6.4 and 19.2.8).
 
 use crate::argument::{below, byte_at, number_at, string_at};
+use crate::constant::bytes_of;
 use crate::fault::{AslError, Why, fault};
 use crate::node::{Node, list_of};
-use crate::word::number_in;
+use crate::word::{byte_of, number_in};
+use acpi_asl::content::value_of;
 use acpi_asl::descriptor::{Bits, Braces, Check, Offset, Part, words};
 use acpi_asl::macros::{Descriptor, checks, descriptors, macro_word, parts, tail};
 use acpi_asl::template::is_template;
+use acpi_base::slice::from_offset;
 use std::alloc::{AllocError, Global};
 
 // The descriptor of a macro.
@@ -26,17 +29,20 @@ fn offset_size(offset: Offset) -> usize {
         Offset::At(at) => usize::from(at),
         Offset::Stated(at) => usize::from(at) + 2,
         Offset::Entries => 5,
+        Offset::BusData => 12,
         Offset::End => 0,
     }
 }
 
 fn part_size(part: Part) -> usize {
     match part {
-        Part::Word(bits, _) => bits.offset.saturating_add(1),
+        Part::Word(bits, _) | Part::WordOrNumber(bits, _) | Part::Bits(bits) => {
+            bits.offset.saturating_add(1)
+        }
         Part::Number(at, width) => usize::from(at) + usize::from(width),
         Part::Blank => 0,
         Part::Tag(_, _, at, width) => usize::from(at) + usize::from(width),
-        Part::Text(from, to) => offset_size(from).max(offset_size(to)),
+        Part::Text(from, to) | Part::Vendor(from, to) => offset_size(from).max(offset_size(to)),
         Part::Index(at) | Part::Source(at) => offset_size(at),
     }
 }
@@ -44,7 +50,8 @@ fn part_size(part: Part) -> usize {
 fn check_size(check: Check) -> usize {
     match check {
         Check::Is(bits, _) | Check::Nonzero(bits) => bits.offset.saturating_add(1),
-        Check::Size(at) => usize::from(at) + 2,
+        Check::Vendor(at) => usize::from(at) + 4,
+        Check::AtLeast(at, _) => usize::from(at) + 2,
         Check::Pairs(from, to) | Check::Text(from, to) => offset_size(from).max(offset_size(to)),
         Check::Source(at) => offset_size(at),
     }
@@ -178,6 +185,54 @@ fn push_text(alloc: Global, node: &Node<'_>, item: &mut Vec<u8>) -> Result<(), A
     Ok(())
 }
 
+// Adds bytes before those from an offset on.
+fn insert(alloc: Global, at: usize, bytes: &[u8], item: &mut Vec<u8>) -> Result<(), AllocError> {
+    let rest = Vec::from_slice(alloc, from_offset(at, item))?;
+    item.truncate(at);
+    item.extend_from_slice(bytes)?;
+    item.extend_from_slice(&rest)
+}
+
+// Adds the index of a resource source, whose name may be there.
+fn push_index(
+    alloc: Global,
+    at: Offset,
+    node: &Node<'_>,
+    item: &mut Vec<u8>,
+) -> Result<(), AslError> {
+    let index = byte_at(node)?;
+    match at {
+        Offset::At(at) => insert(alloc, usize::from(at), &[index], item)?,
+        _ => item.push(index)?,
+    }
+    Ok(())
+}
+
+// Adds a vendor's data, and states how many bytes it has: at the end of a descriptor of pins, or after the own data of a bus.
+fn push_vendor(
+    alloc: Global,
+    from: Offset,
+    node: &Node<'_>,
+    item: &mut Vec<u8>,
+) -> Result<(), AslError> {
+    if !matches!(node.word, b"RawDataBuffer") {
+        return Err(fault(node.at, Why::VendorData));
+    }
+    let bytes = bytes_of(alloc, list_of(&node.body))?;
+    match from {
+        Offset::Stated(at) => {
+            item.extend_from_slice(&bytes)?;
+            set_word(item, usize::from(at) + 2, bytes.len());
+        }
+        _ => {
+            let at = offset_size(from);
+            insert(alloc, at, &bytes, item)?;
+            set_word(item, 10, (at + bytes.len()).saturating_sub(12));
+        }
+    }
+    Ok(())
+}
+
 // Whether a word may be the name that the ASL of a block gives a descriptor whose numbers are all zero.
 fn is_tag(node: &Node<'_>) -> bool {
     node.word.starts_with(b"Y") && node.is_alone()
@@ -195,6 +250,20 @@ fn push_part(
             Some(value) if node.is_alone() => set_bits(item, bits, value),
             _ => return Err(fault(node.at, Why::Keyword)),
         },
+        Part::WordOrNumber(bits, kind) => match number_in(words(kind), node.word) {
+            Some(value) if node.is_alone() => set_bits(item, bits, value),
+            _ => match byte_of(node) {
+                Some(value) => set_bits(item, bits, value),
+                None => return Err(fault(node.at, Why::Keyword)),
+            },
+        },
+        Part::Bits(bits) => {
+            let value = byte_at(node)?;
+            set_bits(item, bits, value);
+            if value_of(item, bits) != value {
+                return Err(fault(node.at, Why::TooLong));
+            }
+        }
         Part::Number(at, width) => set_number(item, at, width, number_at(node, width)?),
         Part::Blank if node.is_absent() => {}
         Part::Tag(..) if node.is_absent() || is_tag(node) => {}
@@ -203,8 +272,9 @@ fn push_part(
             push_text(alloc, node, item)?;
             state(item, to);
         }
-        Part::Index(_) | Part::Source(_) if node.is_absent() => {}
-        Part::Index(_) => item.push(byte_at(node)?)?,
+        Part::Vendor(..) | Part::Index(_) | Part::Source(_) if node.is_absent() => {}
+        Part::Vendor(from, _) => push_vendor(alloc, from, node, item)?,
+        Part::Index(at) => push_index(alloc, at, node, item)?,
         Part::Source(_) => push_text(alloc, node, item)?,
     }
     Ok(())
@@ -221,13 +291,18 @@ fn push_parts(
     if parts.len() != arguments.len() {
         return Err(fault(node.at, Why::Takes(parts.len(), arguments.len())));
     }
-    let mut has_index = true;
+    // The index stands before the source in all macros but ClockInput.
+    let (mut has_index, mut has_source) = (true, false);
     'parts: for (part, argument) in parts.iter().zip(arguments) {
         match part {
+            Part::Index(_) if has_source && argument.is_absent() => {
+                return Err(fault(argument.at, Why::Index));
+            }
             Part::Index(_) => has_index = !argument.is_absent(),
             Part::Source(_) if !has_index && !argument.is_absent() => {
                 return Err(fault(argument.at, Why::Index));
             }
+            Part::Source(_) => has_source = !argument.is_absent(),
             _ => {}
         }
         push_part(alloc, *part, argument, item)?;
@@ -237,13 +312,15 @@ fn push_parts(
 
 // ---- descriptors
 
-// A descriptor in which the bits that its checks name are set.
+// A descriptor in which the bits and the numbers that its checks name are set.
 fn fixed(alloc: Global, descriptor: Descriptor) -> Result<Vec<u8>, AllocError> {
     let mut item = Vec::new(alloc);
     item.resize(fixed_size(descriptor), 0)?;
     'checks: for check in checks(descriptor) {
-        if let Check::Is(bits, value) = check {
-            set_bits(&mut item, *bits, *value);
+        match check {
+            Check::Is(bits, value) => set_bits(&mut item, *bits, *value),
+            Check::AtLeast(at, n) => set_word(&mut item, usize::from(*at), usize::from(*n)),
+            _ => {}
         }
     }
     Ok(item)
