@@ -13,7 +13,7 @@ fn compiled(alloc: Global, text: &[u8]) -> Result<Vec<u8>, Refused>
     ensures { IsOutcome (IsBlockOf text.now) (IsCompileRefusal text.now) (seen (λ bytes. bytes.items) result) }
 {
     match block_of(alloc, text) {
-        Ok(block) => Ok(block),
+        Ok(made) => Ok(made.bytes),
         Err(error) => Err(Refused::of_asl(error, text)),
     }
 }

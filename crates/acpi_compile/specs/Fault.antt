@@ -57,6 +57,13 @@ words why.Unreadable = codes "what follows can't be read back as terms: a call m
 words why.TooLong = codes "a length or a number is too large"
 words (why.Undeclared name) = undeclared name.items
 words (why.Otherwise word) = otherwise word.items
+words why.Loop = codes "no While is around it"
+words why.Twice = codes "its scope already has an object of this name"
+words why.Level = codes "the sync level of a mutex is at most 0x0F"
+words why.NoArgument = codes "the method has no such argument"
+words why.Reference = codes "a name, a local object or another reference is expected"
+words why.Value = codes "it has no value"
+words why.Else = codes "no If is before it"
 
 abbrev pub place_text : List ℕ → List ℕ
 place_text [] = codes "at the end: "

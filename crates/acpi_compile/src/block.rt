@@ -8,7 +8,8 @@ ghost use Rattle.acpi_compile.specs.Compiled.{IsKeptOf, after_note, IsShownAs, I
 use crate::argument::{dword_at, string_at};
 use crate::builder::{MAX_LISTS, nodes_of};
 use crate::called::fault_or_call;
-use crate::fault::{AslError, Why, fault, unwritten};
+use crate::doubt::doubts;
+use crate::fault::{AslError, AslFault, Why, fault, unwritten};
 use crate::node::{Node, list_of, word_node};
 use crate::note::after;
 use crate::number::decimal;
@@ -22,7 +23,6 @@ use acpi_read::table::Table;
 use acpi_term::name_string::Arities;
 use acpi_term::read_error::ReadError;
 use acpi_term::spell::spell;
-use acpi_term::term::Term;
 use std::alloc::{AllocError, Global};
 
 // The bytes of a string, and zeros after them.
@@ -100,13 +100,14 @@ fn header(alloc: Global, node: &Node<'_>) -> Result<Sdt, AslError> {
     }
 }
 
-// The bytes of a definition block with these terms.
-fn block_of(alloc: Global, node: &Node<'_>, terms: &[Term]) -> Result<Sdt, AslError> {
+// The definition block of a node, whose terms are made after its header.
+fn block_of(alloc: Global, node: &Node<'_>) -> Result<Sdt, AslError> {
     let mut table = header(alloc, node)?;
     if let Some(creator) = creator(alloc, node)? {
         set_creator(&mut table, creator);
     }
-    let bytes = match spell(alloc, terms) {
+    let list = statements(&Context::new(alloc)?, MAX_LISTS, list_of(&node.body))?;
+    let bytes = match spell(alloc, &list.terms) {
         Ok(bytes) => bytes,
         Err(error) => return Err(unwritten(node.at, error)),
     };
@@ -316,10 +317,19 @@ fn check_text(
     }
 }
 
+/// A definition block that a text was made into.
+#[derive(Debug, Drop)]
+pub struct Made {
+    /// The bytes of the block.
+    pub bytes: Vec<u8>,
+    /// What compilers refuse in the text, statement by statement: such a text probably has a mistake.
+    pub doubts: Vec<AslFault>,
+}
+
 /// Makes a text into the definition block that it is the ASL of. The error `Fault` is the first place where the text isn't the
 /// ASL of a block, and what is wrong there. The error `Memory` is that memory ran out.
-pub fn compile(alloc: Global, text: &[u8]) -> Result<Vec<u8>, AslError>
-    ensures { IfOk result (λ block. IsCompiled text.now block.items) }
+pub fn compile(alloc: Global, text: &[u8]) -> Result<Made, AslError>
+    ensures { IfOk result (λ made. IsCompiled text.now made.bytes.items) }
 {
     let kept = squeezed(alloc, text)?;
     if ends_in_comment(text) {
@@ -339,11 +349,13 @@ pub fn compile(alloc: Global, text: &[u8]) -> Result<Vec<u8>, AslError>
         return Err(fault(next.at, Why::Block));
     }
     let body = list_of(&node.body);
-    let list = statements(&Context::new(alloc)?, MAX_LISTS, body)?;
-    let table = block_of(alloc, node, &list.terms)?;
+    let table = block_of(alloc, node)?;
     let called = stated(alloc, body)?;
     check_text(alloc, &kept, node, &called, table.as_slice())?;
-    Ok(Vec::from_slice(alloc, table.as_slice())?)
+    Ok(Made {
+        bytes: Vec::from_slice(alloc, table.as_slice())?,
+        doubts: doubts(alloc, body)?,
+    })
 }
 
 /// Returns whether a text is ASL: it begins with a DefinitionBlock or with the note before one, or one of its lines begins with a

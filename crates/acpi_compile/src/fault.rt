@@ -87,6 +87,21 @@ pub enum Why {
     Undeclared(Vec<u8>),
     /// The ASL of the block has this word here.
     Otherwise(Vec<u8>),
+    /// A Break or a Continue is in no While. This and the following are doubts: the text is the ASL of a block, but compilers
+    /// refuse it.
+    Loop,
+    /// The scope has an object of this name.
+    Twice,
+    /// The sync level of a mutex is greater than 15.
+    Level,
+    /// The method hasn't this argument.
+    NoArgument,
+    /// A number or a string stands in place of a name, a local object or another reference.
+    Reference,
+    /// An operand has no value.
+    Value,
+    /// An Else follows no If.
+    Else,
 }
 
 /// What is wrong with a text, and how many characters are kept of the text before it.
@@ -194,6 +209,15 @@ impl Why {
             Why::TooLong => text.push_str("a length or a number is too large"),
             Why::Undeclared(name) => push_undeclared(name, text),
             Why::Otherwise(word) => push_otherwise(word, text),
+            Why::Loop => text.push_str("no While is around it"),
+            Why::Twice => text.push_str("its scope already has an object of this name"),
+            Why::Level => text.push_str("the sync level of a mutex is at most 0x0F"),
+            Why::NoArgument => text.push_str("the method has no such argument"),
+            Why::Reference => {
+                text.push_str("a name, a local object or another reference is expected")
+            }
+            Why::Value => text.push_str("it has no value"),
+            Why::Else => text.push_str("no If is before it"),
         }
     }
 }

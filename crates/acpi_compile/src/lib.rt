@@ -7,6 +7,7 @@ mod builder;
 mod called;
 mod constant;
 mod declaration;
+mod doubt;
 mod entry;
 pub mod fault;
 mod item;

@@ -441,8 +441,9 @@ fn operands(
     }
     let arguments = list_of(&node.arguments);
     let count = usize::from(op.operands());
+    let takes = fault(node.at, Why::Takes(count, arguments.len()));
     if arguments.len() > count {
-        return Err(wrong(node));
+        return Err(takes);
     }
     let mut list = SizedList::new(context.alloc);
     let first_target = count.saturating_sub(targets(op));
@@ -450,7 +451,7 @@ fn operands(
         match arguments.get(i) {
             operand if i >= first_target && is_left_out(operand) => list.add(number(0, 0))?,
             Some(operand) => list.add(term(context, depth, operand)?)?,
-            None => return Err(wrong(node)),
+            None => return Err(takes),
         }
     }
     Ok(list)

@@ -9,6 +9,7 @@ use Rattle.acpi_layout.specs.declared.located.Located.{Located}
 use Rattle.acpi_make.specs.declared.extent.Own.{Own}
 use Rattle.acpitool_program.proofs.Archives.{saved_then, not_saved_then}
 use Rattle.acpitool_program.proofs.Streams.{keeps_kept, keeps_then, appends_nothing}
+use Rattle.acpitool_program.specs.Compiling.{BlockPasses}
 use Rattle.acpitool_program.specs.Image.{IsFoundImage}
 use Rattle.acpitool_program.specs.Laying.{is_text, IsTableOfFields, IsTableBy, IsTableOf, OfTextOrNot, AreOfText, MayBeLaid, IsFile, IsNoFile, IsUnmade}
 use Rattle.acpitool_program.specs.Laying.{AreFiles, IsRefused, IsMisread, IsNotFound, HaveNoneLaid, IsNotLaid, IsFoundOf, IsImageOf}
@@ -44,10 +45,15 @@ made_then path text bytes a b one =
     let P : List ℕ → Type 0 = λ l. IsSoundOr l None in
     (record { made = one.made; is = one.is; same = one.same; right = all.1; sound = subst P one.same all.2 }, all.0)
 
+-- so it is with a block
+undoubted : (path text : List ℕ) (a b : Option (List ℕ)) → BlockPasses false path text a b → Keeps a b
+undoubted path text a b (inl kept) = kept
+undoubted path text a b (inr forced) = absurd (cc (forced.0))
+
 -- the same of a text that is ASL or not
 table_by : (asl : Bool) (path text bytes : List ℕ) (a b : Option (List ℕ)) → OfTextOrNot asl path text (Some bytes) a b
     → IsTableBy asl text bytes × Keeps a b
-table_by true path text bytes a b one = one
+table_by true path text bytes a b one = (one.0, undoubted path text a b one.1)
 table_by false path text bytes a b one = made_then path text bytes a b one
 
 pub table_then : (path text bytes : List ℕ) (a b : Option (List ℕ)) → OfTextOrNot (is_asl text) path text (Some bytes) a b

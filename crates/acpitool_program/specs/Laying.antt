@@ -53,7 +53,7 @@ pub record IsTableOf (text bytes : List ℕ) : Type 0 where
 
 -- what comes of a text, which is ASL or not: the bytes of its table, if there is one
 abbrev pub OfTextOrNot : Bool → List ℕ → List ℕ → Option (List ℕ) → Option (List ℕ) → Option (List ℕ) → Type 0
-OfTextOrNot true path text found err err' = CompiledOrNot path text found err err'
+OfTextOrNot true path text found err err' = CompiledOrNot false path text found err err'
 OfTextOrNot false path text found err err' = MadeOrNot false path text found err err'
 
 -- whether bytes are those of a text's table

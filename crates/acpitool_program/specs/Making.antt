@@ -9,6 +9,7 @@ use Rattle.acpi_make.specs.declared.make.Made.{Made}
 use Rattle.acpi_make.specs.declared.extent.Own.{Own}
 use Rattle.acpi_compile.specs.Compiled.{is_asl}
 use Rattle.acpitool_program.specs.Compiling.{CompiledOrNot}
+use Rattle.acpitool_program.specs.Held.{held_line}
 use Rattle.acpitool_program.specs.Hint.{meant_in, hint}
 use Rattle.acpitool_program.specs.Listing.{NotRead}
 use Rattle.acpitool_program.specs.Noted.{AreNotes}
@@ -27,10 +28,6 @@ pub record Warns (name : List ℕ) (owns : List Own) (bytes : List ℕ) (fault :
   pub text : List ℕ
   pub are : AreNotes name bytes owns text
   pub printed : Appends err err' (text ++ fault_line name fault)
-
--- the line after these of a table that isn't written
-abbrev pub held_line : List ℕ → List ℕ
-held_line name = name ++ codes ": not written (make --force writes it)\n"
 
 -- A made table is to be written. A line says of each number that isn't right which would be, or what is wrong with the table:
 -- there is none, unless such a table is written by force.
@@ -114,15 +111,15 @@ pub record NoTable (force : Bool) (name text : List ℕ) (out out' err err' : Op
   pub is : status ≡ 1
 
 -- the text is made into a definition block, and its bytes are written
-pub record MadeBlock (name text file : List ℕ) (out out' err err' : Option (List ℕ)) (status : ℕ) : Type 0 where
+pub record MadeBlock (force : Bool) (name text file : List ℕ) (out out' err err' : Option (List ℕ)) (status : ℕ) : Type 0 where
   pub bytes : List ℕ
   pub between : Option (List ℕ)
-  pub compiled : CompiledOrNot name text (Some bytes) err between
+  pub compiled : CompiledOrNot force name text (Some bytes) err between
   pub wrote : IsWritten bytes file out out' between err' status
 
 -- no block is written
-pub record NoBlock (name text : List ℕ) (out out' err err' : Option (List ℕ)) (status : ℕ) : Type 0 where
-  pub not : CompiledOrNot name text None err err'
+pub record NoBlock (force : Bool) (name text : List ℕ) (out out' err err' : Option (List ℕ)) (status : ℕ) : Type 0 where
+  pub not : CompiledOrNot force name text None err err'
   pub silent : Keeps out out'
   pub is : status ≡ 1
 
@@ -130,7 +127,7 @@ pub record NoBlock (name text : List ℕ) (out out' err err' : Option (List ℕ)
 abbrev pub MakesOf : Bool → Bool → List ℕ → List ℕ → List ℕ
     → Option (List ℕ) → Option (List ℕ) → Option (List ℕ) → Option (List ℕ) → ℕ → Type 0
 MakesOf true force name text file out out' err err' status =
-    MadeBlock name text file out out' err err' status ⊎ NoBlock name text out out' err err' status
+    MadeBlock force name text file out out' err err' status ⊎ NoBlock force name text out out' err err' status
 MakesOf false force name text file out out' err err' status =
     MadeFile force name text file out out' err err' status ⊎ NoTable force name text out out' err err' status
 

@@ -88,7 +88,7 @@ fn made_of<E: Write>(
         (E.contents err.old) (E.contents err.new)) }
 {
     if is_asl(alloc, text)? {
-        compile_text(alloc, path, text, err)
+        compile_text(alloc, false, path, text, err)
     } else {
         make_text(alloc, false, path, text, err)
     }

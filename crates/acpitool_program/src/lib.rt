@@ -18,6 +18,7 @@ pub mod fields;
 pub mod files;
 pub mod further;
 pub mod headed;
+pub mod held;
 pub mod help;
 pub mod hint;
 pub mod image;

@@ -4,7 +4,7 @@ ghost use Rattle.std.specs.Prelude.{◌≡◌, ◌≢◌, ◌⊎◌, ◌++◌, [
 ghost use Rattle.std.specs.Bool.{MatchBool};
 ghost use Rattle.std.specs.Option.{option_map};
 ghost use Rattle.std.specs.Io.KnownBytes.{Appends};
-ghost use Rattle.acpitool_program.specs.Making.{IsChecked, Warns, held_line, IsJudged, same_line};
+ghost use Rattle.acpitool_program.specs.Making.{IsChecked, Warns, IsJudged, same_line};
 ghost use Rattle.acpitool_program.specs.Making.{not_made, MadeOrNot, Saved, NotSaved};
 ghost use Rattle.acpitool_program.specs.Making.{IsWritten, MakesOf, MakesText, MakesWord, Makes};
 ghost use Rattle.acpitool_program.specs.Replaced.{is_same_path};
@@ -13,6 +13,7 @@ use crate::compiling::compile_text;
 use crate::complaint::complain;
 use crate::fault::Fault;
 use crate::files::{is_same_file, read_word, write_file};
+use crate::held::tell_held;
 use crate::hint::{meant_in, push_hint};
 use crate::noted::print_notes;
 use crate::outcome::{tell_fault, tell_unread};
@@ -29,7 +30,7 @@ use std::rt::Files;
 // What is made.
 #[derive(Clone, Copy)]
 struct Making<'a> {
-    // Whether a table whose numbers are wrong is written.
+    // Whether a table whose numbers are wrong, or a block about whose text there are doubts, is written.
     force: bool,
     // The name of the text.
     name: &'a str,
@@ -61,13 +62,6 @@ fn warn<E: Write>(
     print_notes(alloc, name, owns, bytes, err)?;
     tell_fault(alloc, name, fault, err)?;
     Ok(())
-}
-
-// Prints that a table isn't written.
-fn tell_held<E: Write>(name: &str, err: &mut E) -> io::Result<()>
-    ensures { OnOk result (Appends (E.contents err.old) (E.contents err.new) (held_line name.now)) }
-{
-    writeln!(err, "{name}: not written (make --force writes it)")
 }
 
 // Returns whether a table isn't written.
@@ -224,7 +218,7 @@ fn make_table<R: Files, O: Write, E: Write>(
     }
 }
 
-// Makes a text of ASL into a definition block, and writes it.
+// Makes a text of ASL into a definition block, and writes it. A block about whose text there are doubts is only written by force.
 fn make_block<R: Files, O: Write, E: Write>(
     rt: &R,
     alloc: Global,
@@ -236,7 +230,7 @@ fn make_block<R: Files, O: Write, E: Write>(
     ensures { IfOk result (λ status. MakesOf true making.now.force making.now.name.now text.now making.now.file.now
         (O.contents out.old) (O.contents out.new) (E.contents err.old) (E.contents err.new) status) }
 {
-    match compile_text(alloc, making.name, text, err)? {
+    match compile_text(alloc, making.force, making.name, text, err)? {
         Some(bytes) => write_table(rt, alloc, &bytes, making.file, out, err),
         None => Ok(1),
     }

@@ -37,7 +37,7 @@ pub fn compiled(alloc: Global, bytes: &[u8]) -> Outcome {
         Err(error) => return Outcome::Unread(error),
     };
     match compile(alloc, text.as_bytes()) {
-        Ok(made) => match difference(&made, bytes) {
+        Ok(made) => match difference(&made.bytes, bytes) {
             Some(at) => Outcome::Differs(at),
             None => Outcome::Compiled,
         },
