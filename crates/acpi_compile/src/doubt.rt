@@ -213,9 +213,11 @@ impl Search {
         let Some(op) = operator(&self.operators, node.word) else {
             return Ok(());
         };
-        let first_target = usize::from(op.operands()).saturating_sub(targets(op));
+        let end = usize::from(op.operands());
+        let first_target = end.saturating_sub(targets(op));
         'operands: for (i, operand) in list_of(&node.arguments).iter().enumerate() {
-            let refers = i >= first_target || is_reference(node.word, i);
+            let is_target = first_target <= i && i < end;
+            let refers = is_target || is_reference(node.word, i);
             if refers && is_constant(operand.word) {
                 self.doubt(operand.at, Why::Reference)?;
             } else if is_valueless(operand.word) {
