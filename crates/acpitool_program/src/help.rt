@@ -66,15 +66,15 @@ It prints the address, signature, length and revision of each. BASE is the addre
 hexadecimal; it is 0 if there is none. If no RSDP points to an XSDT, one of revision 0 or 1 counts, which points to an RSDT.
 image --json prints an array of JSON with an object for each table. As FILE, - is standard input.
 
-make reads a text that show prints, changed or written by hand, and writes the bytes of its table to FILE.
-Question marks are worked out: the length, the checksum, and how long, how many and of which type structures
-are. Other numbers stay as they are. A line says which length of the table, count or checksum would be right, and
-the table isn't written; with --force it is. A wrong length of a structure is a fault. As TEXT, - is standard input, and as FILE, standard output. TEXT
-and FILE may not be the same file. A regular FILE is replaced as a whole by FILE.part, which may not be there
-before. A device, a pipe or a link stays what it is, and takes the bytes. Of a text of ASL, as show and disassemble print
-it, changed or written by hand in the same form, make writes the definition block. Its ASL is this text, and else a line
-says which word of the text would be another. What compilers refuse in it, such as a name that is twice in a scope, has a
-line, too, and the block is written with --force only.
+make reads a text that show prints, changed or written by hand, and writes the bytes of its table to FILE. Question
+marks are worked out: the length, the checksum, and how long, how many and of which type structures are. Other numbers
+stay as they are. A line says which length of the table, count or checksum would be right, and the table isn't written;
+with --force it is. A wrong length of a structure is a fault. As TEXT, - is standard input, and as FILE, standard
+output. TEXT and FILE may not be the same file. A regular FILE is replaced as a whole by FILE.part, which may not be
+there before. A device, a pipe or a link stays what it is, and takes the bytes. Of a text of ASL, as show and
+disassemble print it, changed or written by hand in the same form, make writes the definition block. Its ASL is this
+text, and else a line says which word of the text would be another. What compilers refuse in it, such as a name that is
+twice in a scope, has a line, too, and the block is written with --force only.
 
 repair writes the table in FILE to OUT with the length and the checksums that it should have, as after a change with an
 editor of bytes; all other bytes stay as they are. The length is the number of bytes in FILE. A line says what each of them
