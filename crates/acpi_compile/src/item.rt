@@ -227,7 +227,7 @@ fn push_vendor(
         _ => {
             let at = offset_size(from);
             insert(alloc, at, &bytes, item)?;
-            set_word(item, 10, (at + bytes.len()).saturating_sub(12));
+            set_word(item, 10, at.saturating_add(bytes.len()).saturating_sub(12));
         }
     }
     Ok(())
