@@ -4,7 +4,7 @@ ghost use Rattle.std.specs.Prelude.{◌≡◌, IfOk, OnOk};
 ghost use Rattle.std.specs.Io.KnownBytes.{Appends};
 ghost use Rattle.std.specs.Option.{option_map};
 ghost use Rattle.acpi_compile.specs.Compiled.{is_asl};
-ghost use Rattle.acpitool_program.specs.Compiling.{doubt_lines, IsBlockJudged, CompiledOrNot};
+ghost use Rattle.acpitool_program.specs.Compiling.{asl_line, doubt_lines, IsBlockJudged, CompiledOrNot};
 
 use crate::complaint::complain;
 use crate::held::tell_held;
@@ -13,6 +13,21 @@ use acpi_compile::fault::{AslError, AslFault};
 use std::alloc::{AllocError, Global};
 use std::io;
 use std::io::Write;
+
+// Prints what is wrong with a text, and where.
+fn tell<E: Write>(
+    alloc: Global,
+    name: &str,
+    text: &[u8],
+    fault: &AslFault,
+    err: &mut E,
+) -> io::Result<()>
+    ensures { OnOk result (Appends (E.contents err.old) (E.contents err.new)
+        (asl_line name.now text.now fault.now.at fault.now.why)) }
+{
+    let why = fault.explain(alloc, text)?;
+    complain(alloc, name, &why, err)
+}
 
 // Prints a line for each doubt about a text.
 fn tell_doubts<E: Write>(
@@ -25,8 +40,7 @@ fn tell_doubts<E: Write>(
     ensures { OnOk result (Appends (E.contents err.old) (E.contents err.new) (doubt_lines name.now text.now doubts.now)) }
 {
     'doubts: for doubt in doubts {
-        let why = doubt.explain(alloc, text)?;
-        complain(alloc, name, &why, err)?;
+        tell(alloc, name, text, doubt, err)?;
     }
     Ok(())
 }
@@ -76,8 +90,7 @@ pub fn compile_text<E: Write>(
         }
         Err(AslError::Memory) => Err(io::Error::from(AllocError)),
         Err(AslError::Fault(wrong)) => {
-            let why = wrong.explain(alloc, text)?;
-            complain(alloc, name, &why, err)?;
+            tell(alloc, name, text, &wrong, err)?;
             Ok(None)
         }
     }
