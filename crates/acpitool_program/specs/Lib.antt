@@ -2,6 +2,7 @@ pub mod Check
 pub mod Another
 pub mod Fault
 pub mod Headed
+pub mod Held
 pub mod Offsets
 pub mod Text
 pub mod Structures
