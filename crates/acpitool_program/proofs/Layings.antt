@@ -9,7 +9,7 @@ use Rattle.acpi_layout.specs.declared.located.Located.{Located}
 use Rattle.acpi_make.specs.declared.extent.Own.{Own}
 use Rattle.acpitool_program.proofs.Archives.{saved_then, not_saved_then}
 use Rattle.acpitool_program.proofs.Streams.{keeps_kept, keeps_then, appends_nothing}
-use Rattle.acpitool_program.specs.Compiling.{BlockPasses}
+use Rattle.acpitool_program.specs.Compiling.{BlockPasses, HeldBlock, NotCompiled}
 use Rattle.acpitool_program.specs.Image.{IsFoundImage}
 use Rattle.acpitool_program.specs.Laying.{is_text, IsTableOfFields, IsTableBy, IsTableOf, OfTextOrNot, AreOfText, MayBeLaid, IsFile, IsNoFile, IsUnmade}
 use Rattle.acpitool_program.specs.Laying.{AreFiles, IsRefused, IsMisread, IsNotFound, HaveNoneLaid, IsNotLaid, IsFoundOf, IsImageOf}
@@ -116,10 +116,28 @@ unmade_fields path text a b c kept (inl not) = inl (held_then path text a b c ke
 unmade_fields path text a b c kept (inr not) =
     inr (record { wrong = not.wrong; is = not.is; complained = keeps_then a b c _ kept not.complained })
 
+unmade_block : (path text : List ℕ) (a b c : Option (List ℕ)) → Keeps a b
+    → HeldBlock false path text b c ⊎ NotCompiled path text b c → HeldBlock false path text a c ⊎ NotCompiled path text a c
+unmade_block path text a b c kept (inl not) = inl (record {
+  bytes = not.bytes;
+  compiled = not.compiled;
+  judged = record {
+    no_force = not.judged.no_force;
+    between = not.judged.between;
+    doubted = record {
+      doubts = not.judged.doubted.doubts;
+      some = not.judged.doubted.some;
+      told = keeps_then a b not.judged.between _ kept not.judged.doubted.told;
+    };
+    held = not.judged.held;
+  };
+})
+unmade_block path text a b c kept (inr not) =
+    inr (record { at = not.at; why = not.why; complained = keeps_then a b c _ kept not.complained })
+
 unmade_by : (asl : Bool) (path text : List ℕ) (a b c : Option (List ℕ)) → Keeps a b → OfTextOrNot asl path text None b c
     → OfTextOrNot asl path text None a c
-unmade_by true path text a b c kept not =
-    record { at = not.at; why = not.why; complained = keeps_then a b c _ kept not.complained }
+unmade_by true path text a b c kept not = unmade_block path text a b c kept not
 unmade_by false path text a b c kept not = unmade_fields path text a b c kept not
 
 unmade_then : (path : List ℕ) (a b c : Option (List ℕ)) (status : ℕ) → Keeps a b → IsUnmade path b c status → IsUnmade path a c status
