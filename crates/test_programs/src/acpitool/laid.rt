@@ -196,6 +196,10 @@ const DSDT_TEXT: &str =
 const DSDT_ASL: &str =
     "DefinitionBlock (\"\", \"DSDT\", 2, \"FOOBAR\", \"CAFEDEAD\", 0x00000001)\n{\n}\n";
 
+// ASL with a name that is twice in a scope.
+const TWICE_ASL: &str =
+    "DefinitionBlock (\"\", \"DSDT\", 2, \"FOOBAR\", \"CAFEDEAD\", 0x00000001)\n{\n    Name (AAAA, One)\n    Name (AAAA, One)\n}\n";
+
 // Lays the other tables and the text of a DSDT in a file of a new folder.
 fn lays_text(rt: &HostRuntime, paths: [&str; 5], text: &str) -> Result<(), Fail> {
     let [folder, dsdt, fadt, facs, table] = paths;
@@ -222,7 +226,7 @@ fn texts_are_laid(rt: HostRuntime) -> Result<(), Fail> {
     lays_text(&rt, paths, DSDT_ASL)
 }
 
-// A text that isn't one of a table, one of ASL with a wrong number, and one whose length is wrong.
+// A text that isn't one of a table, one of ASL with a wrong number, one whose length is wrong, and ASL that compilers refuse.
 #[test]
 fn texts_without_a_table(rt: HostRuntime) -> Result<(), Fail> {
     fs::create_dir(&rt, "no_texts")?;
@@ -241,6 +245,12 @@ of the line\n";
     write(&rt, path, WRONG.as_bytes())?;
     let lines = [
         "no_texts/a.txt: note at 4: Length: 36 would be right\n",
+        "no_texts/a.txt: not written (make --force writes it)\n",
+    ];
+    ends(&rt, &words, 1, &[], &lines)?;
+    write(&rt, path, TWICE_ASL.as_bytes())?;
+    let lines = [
+        "no_texts/a.txt: line 4, at AAAA: its scope already has an object of this name\n",
         "no_texts/a.txt: not written (make --force writes it)\n",
     ];
     ends(&rt, &words, 1, &[], &lines)
