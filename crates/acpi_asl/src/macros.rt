@@ -8,8 +8,8 @@ ghost use Rattle.acpi_asl.specs.Descriptor.{facts, descriptors};
 use crate::content::shifted;
 use crate::descriptor::{Bits, Braces, Check, Offset, Part, WordKind};
 
-/// The descriptors that have macros: those of ACPI 6.5, 6.4. `I2cBus2`, `SpiBus2` and `UartBus2` are the descriptors of revision 2,
-/// which say whether the connection is shared.
+/// The descriptors that have macros: those of ACPI 6.5, 6.4. `I2cBus2`, `SpiBus2` and `UartBus2` are the descriptors of revision
+/// 2, which say whether the connection is shared.
 #[derive(Clone, Copy, Debug)]
 pub enum Descriptor {
     IrqNoFlags,
@@ -253,8 +253,8 @@ macro_rules! space_checks {
 // ---- pins
 
 // The pins begin after `n` bytes, and the controller's name and a vendor's data follow them. The two bytes at `table` are the
-// offset of the pins, those at `name` that of the name, and those at `vendor` that of the vendor's data. The next two are how many
-// bytes the vendor's data has.
+// offset of the pins, those at `name` that of the name, and those at `vendor` that of the vendor's data. The next two are the
+// number of bytes of the vendor's data.
 macro_rules! pins {
     ([$($front:expr),*] $n:literal, $table:literal, $name:literal, $vendor:literal) => {
         &[

@@ -90,7 +90,7 @@ enum hyssop_fault {
     HYSSOP_FAULT_WANTS_FIELD = 74, /* expected bytes, since the line has no field */
     HYSSOP_FAULT_WANTS_NAME = 75, /* expected a name that this field has; a bar between spaces joins flags of different bits */
     HYSSOP_FAULT_WANTS_NUMBER = 76, /* expected a number that fits the field */
-    HYSSOP_FAULT_WANTS_LABEL = 77, /* expected the label of a structure */
+    HYSSOP_FAULT_WANTS_LABEL = 77, /* expected the label of one structure */
     HYSSOP_FAULT_WANTS_BYTES = 78, /* expected bytes, since nothing determines the question marks */
     HYSSOP_FAULT_WANTS_NEXT = 79, /* expected another field or structure */
     HYSSOP_FAULT_WANTS_NAMELESS = 80, /* expected Bytes, since no field of the form stands here */

@@ -145,7 +145,7 @@ macro_rules! faults {
             WantsField 74 "expected bytes, since the line has no field"
             WantsName 75 "expected a name that this field has; a bar between spaces joins flags of different bits"
             WantsNumber 76 "expected a number that fits the field"
-            WantsLabel 77 "expected the label of a structure"
+            WantsLabel 77 "expected the label of one structure"
             WantsBytes 78 "expected bytes, since nothing determines the question marks"
             WantsNext 79 "expected another field or structure"
             WantsNameless 80 "expected Bytes, since no field of the form stands here"

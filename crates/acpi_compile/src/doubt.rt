@@ -15,9 +15,9 @@ use std::collections::BTreeMap;
 // The greatest sync level of a mutex (ACPI 6.5, 19.6.88).
 const MAX_LEVEL: u8 = 15;
 
-// Where a node stands.
+// What stands around a node.
 #[derive(Clone, Copy)]
-struct Spot<'a> {
+struct Surroundings<'a> {
     // The path of the scope, without the backslash.
     scope: &'a [u8],
     // Whether a While of the same method is around it.
@@ -161,11 +161,11 @@ impl Search {
     }
 
     // Notes an object that is made in a scope. A scope has one object of a name (ACPI 6.5, 5.3).
-    fn object(&mut self, spot: Spot<'_>, at: usize, name: &[u8]) -> Result<(), AllocError> {
-        if spot.is_conditional {
+    fn object(&mut self, around: Surroundings<'_>, at: usize, name: &[u8]) -> Result<(), AllocError> {
+        if around.is_conditional {
             return Ok(());
         }
-        let path = path_of(self.alloc, spot.scope, name)?;
+        let path = path_of(self.alloc, around.scope, name)?;
         match self.objects.insert(path, ())? {
             Some(()) => self.doubt(at, Why::Twice),
             None => Ok(()),
@@ -173,27 +173,27 @@ impl Search {
     }
 
     // Notes the fields among entries.
-    fn entries(&mut self, spot: Spot<'_>, entries: &[Node<'_>]) -> Result<(), AllocError> {
+    fn entries(&mut self, around: Surroundings<'_>, entries: &[Node<'_>]) -> Result<(), AllocError> {
         'entries: for entry in entries {
             if is_name(entry.word) {
-                self.object(spot, entry.at, entry.word)?;
+                self.object(around, entry.at, entry.word)?;
             }
         }
         Ok(())
     }
 
     // A Break or a Continue is in a While (ACPI 6.5, 19.6.8 and 19.6.16).
-    fn check_loop(&mut self, spot: Spot<'_>, node: &Node<'_>) -> Result<(), AllocError> {
-        if matches!(node.word, b"Break" | b"Continue") && !spot.is_in_loop {
+    fn check_loop(&mut self, around: Surroundings<'_>, node: &Node<'_>) -> Result<(), AllocError> {
+        if matches!(node.word, b"Break" | b"Continue") && !around.is_in_loop {
             return self.doubt(node.at, Why::Loop);
         }
         Ok(())
     }
 
-    // A method has the argument (ACPI 6.5, 19.6.83).
-    fn check_argument(&mut self, spot: Spot<'_>, node: &Node<'_>) -> Result<(), AllocError> {
+    // A method has the argument (ACPI 6.5, 19.6.84).
+    fn check_argument(&mut self, around: Surroundings<'_>, node: &Node<'_>) -> Result<(), AllocError> {
         match argument_of(node.word) {
-            Some(n) if n >= spot.arguments => self.doubt(node.at, Why::NoArgument),
+            Some(n) if n >= around.arguments => self.doubt(node.at, Why::NoArgument),
             _ => Ok(()),
         }
     }
@@ -236,13 +236,13 @@ impl Search {
     }
 
     // What a node itself has, and its object.
-    fn check(&mut self, spot: Spot<'_>, node: &Node<'_>) -> Result<(), AllocError> {
-        self.check_loop(spot, node)?;
-        self.check_argument(spot, node)?;
+    fn check(&mut self, around: Surroundings<'_>, node: &Node<'_>) -> Result<(), AllocError> {
+        self.check_loop(around, node)?;
+        self.check_argument(around, node)?;
         self.check_level(node)?;
         self.check_operands(node)?;
         match (object_made(node), list_of(&node.arguments)) {
-            (Some(name), [first, ..]) => self.object(spot, first.at, name),
+            (Some(name), [first, ..]) => self.object(around, first.at, name),
             _ => Ok(()),
         }
     }
@@ -255,7 +255,7 @@ impl Search {
 fn look_at_all(
     search: &mut Search,
     depth: usize,
-    spot: Spot<'_>,
+    around: Surroundings<'_>,
     nodes: &[Node<'_>],
 ) -> Result<(), AllocError> {
     let Some(depth) = depth.checked_sub(1) else {
@@ -264,7 +264,7 @@ fn look_at_all(
     let mut before: &[u8] = &[];
     'nodes: for node in nodes {
         search.check_else(before, node)?;
-        look_at(search, depth, spot, node)?;
+        look_at(search, depth, around, node)?;
         before = node.word;
     }
     Ok(())
@@ -275,41 +275,41 @@ fn look_at_all(
 fn look_at(
     search: &mut Search,
     depth: usize,
-    spot: Spot<'_>,
+    around: Surroundings<'_>,
     node: &Node<'_>,
 ) -> Result<(), AllocError> {
     if matches!(node.word, b"ResourceTemplate") {
         return Ok(());
     }
-    search.check(spot, node)?;
-    look_at_all(search, depth, spot, list_of(&node.arguments))?;
+    search.check(around, node)?;
+    look_at_all(search, depth, around, list_of(&node.arguments))?;
     let body = list_of(&node.body);
     match (node.word, list_of(&node.arguments)) {
         (word, [name, ..]) if is_scope(word) => {
-            let scope = path_of(search.alloc, spot.scope, name.word)?;
+            let scope = path_of(search.alloc, around.scope, name.word)?;
             let is_method = matches!(word, b"Method");
-            let inside = Spot {
+            let inside = Surroundings {
                 scope: &scope,
                 is_in_loop: false,
-                is_conditional: spot.is_conditional,
+                is_conditional: around.is_conditional,
                 arguments: if is_method {
                     argument_count(node)
                 } else {
-                    spot.arguments
+                    around.arguments
                 },
             };
             look_at_all(search, depth, inside, body)
         }
         (word, _) if is_conditional(word) => {
-            let inside = Spot {
-                is_in_loop: spot.is_in_loop || matches!(word, b"While"),
+            let inside = Surroundings {
+                is_in_loop: around.is_in_loop || matches!(word, b"While"),
                 is_conditional: true,
-                ..spot
+                ..around
             };
             look_at_all(search, depth, inside, body)
         }
-        _ if has_entries(node) => search.entries(spot, body),
-        _ => look_at_all(search, depth, spot, body),
+        _ if has_entries(node) => search.entries(around, body),
+        _ => look_at_all(search, depth, around, body),
     }
 }
 
@@ -321,12 +321,12 @@ pub fn doubts(alloc: Global, nodes: &[Node<'_>]) -> Result<Vec<AslFault>, AllocE
         objects: BTreeMap::new(alloc),
         doubts: Vec::new(alloc),
     };
-    let spot = Spot {
+    let around = Surroundings {
         scope: &[],
         is_in_loop: false,
         is_conditional: false,
         arguments: 0,
     };
-    look_at_all(&mut search, MAX_LISTS, spot, nodes)?;
+    look_at_all(&mut search, MAX_LISTS, around, nodes)?;
     Ok(search.doubts)
 }

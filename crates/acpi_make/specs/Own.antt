@@ -202,26 +202,37 @@ abbrev pub has_label : List ℕ → Option (List ℕ) → Bool
 has_label wanted (Some label) = is_same (after wanted label)
 has_label wanted None = false
 
--- the offset of the structure with a label
-abbrev pub find_label : List ℕ → List ℕ → List Mark → Option ℕ
+-- the offset of the only structure with a label: another structure has it, or none
+abbrev pub alone : ℕ → Option (Option ℕ) → Option ℕ
+alone at None = Some at
+alone at (Some other) = None
+
+-- whether structures have a label, and the offset of the structure if one alone has it
+abbrev pub find_label : List ℕ → List ℕ → List Mark → Option (Option ℕ)
 find_label text wanted [] = None
 find_label text wanted (Structure at from to ∷ marks) =
-    if has_label wanted (label_of (part_at from to text)) then Some at else find_label text wanted marks
+    if has_label wanted (label_of (part_at from to text)) then Some (alone at (find_label text wanted marks))
+    else find_label text wanted marks
 find_label text wanted (Line at from to ∷ marks) = find_label text wanted marks
 find_label text wanted (Reference at w from to ∷ marks) = find_label text wanted marks
 
--- the offset that a map has for a label
-abbrev pub labelled : BTreeMap (Bor (List ℕ)) ℕ → List ℕ → Option ℕ
+abbrev pub the_one : Option (Option ℕ) → Option ℕ
+the_one (Some place) = place
+the_one None = None
+
+-- what a map has for a label
+abbrev pub labelled : BTreeMap (Bor (List ℕ)) (Option ℕ) → List ℕ → Option (Option ℕ)
 labelled labels wanted = get_by (λ label. slice_cmp nat_cmp wanted label.now) labels
 
--- a map has for each label the offset of the first structure with it
-abbrev pub AreLabels : BTreeMap (Bor (List ℕ)) ℕ → List ℕ → List Mark → Type 0
+-- a map has for each label whether structures have it, and the offset of the only one
+abbrev pub AreLabels : BTreeMap (Bor (List ℕ)) (Option ℕ) → List ℕ → List Mark → Type 0
 AreLabels labels text marks = (wanted : List ℕ) → labelled labels wanted ≡ find_label text wanted marks
 
--- a map with a further offset under a label, if there is one
-abbrev pub PutsLabel : BTreeMap (Bor (List ℕ)) ℕ → BTreeMap (Bor (List ℕ)) ℕ → Option (List ℕ) → ℕ → Type 0
+-- a map with a further structure under a label, if there is one
+abbrev pub PutsLabel : BTreeMap (Bor (List ℕ)) (Option ℕ) → BTreeMap (Bor (List ℕ)) (Option ℕ) → Option (List ℕ) → ℕ → Type 0
 PutsLabel old new label at =
-    (wanted : List ℕ) → labelled new wanted ≡ (if has_label wanted label then Some at else labelled old wanted)
+    (wanted : List ℕ) → labelled new wanted ≡
+    (if has_label wanted label then Some (alone at (labelled old wanted)) else labelled old wanted)
 
 abbrev pub reference_own : ℕ → ℕ → ℕ → ℕ → Option ℕ → Result (List Own) Fault
 reference_own at w from to (Some offset) =
@@ -238,4 +249,5 @@ references_own text all [] = Ok []
 references_own text all (Structure at from to ∷ marks) = references_own text all marks
 references_own text all (Line at from to ∷ marks) = references_own text all marks
 references_own text all (Reference at w from to ∷ marks) =
-    and_more (reference_own at w from to (find_label text (drop 1 (part_at from to text)) all)) (references_own text all marks)
+    and_more (reference_own at w from to (the_one (find_label text (drop 1 (part_at from to text)) all)))
+    (references_own text all marks)

@@ -39,7 +39,7 @@ pub enum Wanted {
     Name,
     /// A number that fits the field.
     Number,
-    /// The label of a structure, whose offset fits the field.
+    /// The label of one structure alone, whose offset fits the field.
     Label,
     /// Bytes in place of question marks: nothing determines them.
     Bytes,
@@ -141,7 +141,7 @@ impl Wanted {
                 "a name that this field has; a bar between spaces joins flags of different bits"
             }
             Wanted::Number => "a number that fits the field",
-            Wanted::Label => "the label of a structure",
+            Wanted::Label => "the label of one structure",
             Wanted::Bytes => "bytes, since nothing determines the question marks",
             Wanted::Next => "another field or structure",
             Wanted::Nameless => "Bytes, since no field of the form stands here",

@@ -12,7 +12,7 @@ ghost use Rattle.acpi_make.specs.Own.{part_own, parts_own};
 ghost use Rattle.acpi_make.specs.Draft.{is_nameless};
 ghost use Rattle.std.specs.Option.{option_map};
 ghost use Rattle.acpi_make.specs.Own.{kind_own, structure_own, contents_own, table_own, reference_own, references_own};
-ghost use Rattle.acpi_make.specs.Own.{AreLabels, PutsLabel, labelled};
+ghost use Rattle.acpi_make.specs.Own.{AreLabels, PutsLabel, labelled, the_one};
 ghost use Rattle.acpi_make.specs.Text.{part_at};
 
 use crate::draft::{Mark, Source, fits, is_nameless};
@@ -401,29 +401,34 @@ pub fn push_table(
     push_contents(source, cells, marks, owns)
 }
 
-// Adds the offset of a structure under the label of its heading, if the heading has one, in place of another one of this label.
+// Adds a structure under the label of its heading, if the heading has one. If another structure has the label, it has no offset.
 fn put_label<'a>(
     heading: &'a [u8],
     at: usize,
-    labels: &mut BTreeMap<&'a [u8], usize>,
+    labels: &mut BTreeMap<&'a [u8], Option<usize>>,
 ) -> Result<(), AllocError>
     ensures { OnOk result (PutsLabel labels.old labels.new (label_of heading.now) at) }
 {
     match label_of(heading) {
         Some(label) => {
-            labels.insert(label, at)?;
+            let place = if labels.contains_key(label) {
+                None
+            } else {
+                Some(at)
+            };
+            labels.insert(label, place)?;
             Ok(())
         }
         None => Ok(()),
     }
 }
 
-// Returns for each label the offset of the first structure with it. It begins with the last structure.
+// Returns for each label the offset of the only structure with it. It begins with the last structure.
 fn labels_of<'a>(
     alloc: Global,
     text: &'a [u8],
     marks: &[Mark],
-) -> Result<BTreeMap<&'a [u8], usize>, AllocError>
+) -> Result<BTreeMap<&'a [u8], Option<usize>>, AllocError>
     ensures { IfOk result (λ labels. AreLabels labels text.now marks.now) }
 {
     let mut labels = BTreeMap::new(alloc);
@@ -443,13 +448,21 @@ fn labels_of<'a>(
     Ok(labels)
 }
 
-// Returns the offset of the structure with the label that a reference has after its first character.
-fn find_label(text: &[u8], from: usize, to: usize, labels: &BTreeMap<&[u8], usize>) -> Option<usize>
-    ensures { result ≡ labelled labels.now (drop 1 (part_at from to text.now)) }
+// Returns the offset of the only structure with the label that a reference has after its first character.
+fn find_label(
+    text: &[u8],
+    from: usize,
+    to: usize,
+    labels: &BTreeMap<&[u8], Option<usize>>,
+) -> Option<usize>
+    ensures { result ≡ the_one (labelled labels.now (drop 1 (part_at from to text.now))) }
 {
     let value = part_at(from, to, text);
     let label = if value.is_empty() { value } else { &value[1..] };
-    labels.get(label).copied()
+    match labels.get(label) {
+        Some(place) => *place,
+        None => None,
+    }
 }
 
 // Adds the offset of the structure to which a reference refers.
@@ -478,7 +491,7 @@ fn push_reference(
     }
 }
 
-/// Adds the offsets of the structures to which references refer. The error is that memory ran out, or that a structure with this
+/// Adds the offsets of the structures to which references refer. The error is that memory ran out, or that one structure with this
 /// label is wanted.
 pub fn push_references(text: &[u8], marks: &[Mark], owns: &mut Vec<Own>) -> Result<(), MakeError>
     ensures { Changes result owns.new.items (with_front owns.old.items (references_own text.now marks.now marks.now)) }
