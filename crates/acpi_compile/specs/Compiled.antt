@@ -4,6 +4,7 @@ use Rattle.std.specs.List.{starts_with}
 use Rattle.acpi_base.specs.Table.{IsTrueTable}
 use Rattle.acpi_asl.specs.Block.{has_terms, IsBlockText}
 use Rattle.acpi_asl.specs.declared.block.BlockText.TheVariants.{Asl}
+use Rattle.acpi_compile.specs.Alike.{alike}
 use Rattle.acpi_compile.specs.Squeeze.{squeezed, has_block}
 
 -- the ASL of a block, in which names take these numbers of arguments, is these characters but for what a compiler skips
@@ -17,12 +18,13 @@ abbrev pub after_note : List ℕ → List ℕ
 after_note (a ∷ b ∷ rest) = if a == 42 && b == 47 then rest else after_note (b ∷ rest)
 after_note _ = []
 
--- The same of a text, which need not say which program made the table.
+-- A text is the ASL of a block but for what means nothing to a compiler. It need not say which program made the table.
 abbrev pub IsShownAs : List (List ℕ × ℕ) → List ℕ → List ℕ → Type 0
 IsShownAs stated block kept =
-    IsKeptOf stated block kept ⊎ ((noted : List ℕ) × IsKeptOf stated block noted × (kept ≡ after_note noted))
+    (shown : List ℕ) × IsKeptOf stated block shown
+    × ((alike kept ≡ alike shown) ⊎ (alike kept ≡ alike (after_note shown)))
 
--- The bytes are a table of a definition block, whose ASL is the text but for what a compiler skips. The terms are read in the
+-- The bytes are a table of a definition block, whose ASL is the text but for what means nothing to a compiler. The terms are read in the
 -- language of the standard, where names that the block doesn't declare take the numbers of arguments that the text gives them.
 pub record IsCompiled (text block : List ℕ) : Type 0 where
   pub table : IsTrueTable block

@@ -1,3 +1,4 @@
+pub mod Alike
 pub mod Compiled
 pub mod Fault
 pub mod Squeeze

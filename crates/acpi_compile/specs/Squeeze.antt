@@ -1,6 +1,5 @@
--- The text of ASL without what a compiler skips: white space and comments (ACPI 6.5, 19.2.1). One space is left between two
--- words.
--- Of a comment that begins with `/*=` all is kept.
+-- The text of ASL without what a compiler skips: white space, comments, and semicolons after statements (ACPI 6.5, 19.2.1 and
+-- 19.2.3). One space is left between two words. Of a comment that begins with `/*=` all is kept.
 use Rattle.std.specs.Prelude.{ℕ, ◌+◌, ◌-◌, nat_le, nat_lt, ◌==◌, ◌&&◌, ◌||◌, not, Bool, true, false, if◌then◌else◌}
 use Rattle.std.specs.Prelude.{List, [], ◌∷◌, ◌++◌, length}
 use Rattle.std.specs.Prelude.{nat_eq, take, drop, codes}
@@ -18,8 +17,9 @@ abbrev pub is_word : ℕ → Bool
 is_word c = (nat_le 65 c && nat_le c 90) || (nat_le 97 c && nat_le c 122) || (nat_le 48 c && nat_le c 57)
     || c == 95 || c == 46 || c == 94 || c == 92
 
+-- white space, or a semicolon
 abbrev pub is_white : ℕ → Bool
-is_white c = c == 32 || c == 9 || c == 10 || c == 13
+is_white c = c == 32 || c == 9 || c == 10 || c == 13 || c == 59
 
 -- ---- where the next character stands
 

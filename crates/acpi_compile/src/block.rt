@@ -3,8 +3,10 @@
 ghost use Rattle.std.specs.Prelude.{◌≡◌, ◌≤◌, true, length, OnOk, IfOk};
 ghost use Rattle.acpi_base.specs.Table.{IsTrueTable};
 ghost use Rattle.acpi_asl.specs.Block.{has_terms};
+ghost use Rattle.acpi_compile.specs.Alike.{alike};
 ghost use Rattle.acpi_compile.specs.Compiled.{IsKeptOf, after_note, IsShownAs, IsCompiled, is_asl};
 
+use crate::alike::alike;
 use crate::argument::{dword_at, string_at};
 use crate::builder::{MAX_LISTS, nodes_of};
 use crate::called::fault_or_call;
@@ -174,11 +176,11 @@ fn unreadable(
     let text = text_in_part(alloc, BlockText::Asl, called, &[], block)?;
     let squeezed = squeezed(alloc, text.as_bytes())?;
     let shown = noted_as(&squeezed, kept);
-    let at = place_of(shown, kept);
-    if !from_offset(at, shown).starts_with(b"/*= not read") {
+    let difference = difference(alloc, shown, kept)?;
+    if !from_offset(difference.shown, shown).starts_with(b"/*= not read") {
         return unlike(alloc, shown, kept, node);
     }
-    let at = past_space(kept, at);
+    let at = past_space(kept, difference.kept);
     match error {
         ReadError::TooDeep(_) => Ok(fault(at, Why::TooDeep)),
         _ => Ok(fault(at, Why::Unreadable)),
@@ -216,6 +218,41 @@ fn last_word(kept: &[u8]) -> usize {
 fn place_of(shown: &[u8], kept: &[u8]) -> usize {
     let at = same(shown, kept);
     word_start(shown, at).min(word_start(kept, at))
+}
+
+// The place of a character in a text, by its place in what counts of the text.
+fn place_in(text: &[u8], counted: &[u8], place: usize) -> usize {
+    let mut next: usize = 0;
+    'characters: for (at, c) in text.iter().enumerate() {
+        match counted.get(next) {
+            Some(d) if d.to_ascii_lowercase() == c.to_ascii_lowercase() && next == place => {
+                return at;
+            }
+            Some(d) if d.to_ascii_lowercase() == c.to_ascii_lowercase() => {
+                next = next.saturating_add(1);
+            }
+            // A space in place of parentheses.
+            Some(b' ') if *c == b')' => next = next.saturating_add(1),
+            _ => {}
+        }
+    }
+    text.len()
+}
+
+// Where the ASL of a block and a text begin to differ in what counts.
+#[derive(Clone, Copy)]
+struct Difference {
+    shown: usize,
+    kept: usize,
+}
+
+fn difference(alloc: Global, shown: &[u8], kept: &[u8]) -> Result<Difference, AllocError> {
+    let (one, other) = (alike(alloc, shown)?, alike(alloc, kept)?);
+    let place = place_of(&one, &other);
+    Ok(Difference {
+        shown: place_in(shown, &one, place),
+        kept: place_in(kept, &other, place),
+    })
 }
 
 // The place after a space, if one stands there.
@@ -261,15 +298,26 @@ fn has_absent(kept: &[u8], name: &[u8]) -> bool {
 // The fault of a text at its first word that the ASL of the block doesn't have. A name that the text doesn't declare is reported
 // where the text uses it.
 fn unlike(alloc: Global, shown: &[u8], kept: &[u8], node: &Node<'_>) -> Result<AslError, AslError> {
-    let at = place_of(shown, kept);
-    let name = absent_at(shown, at);
+    let difference = difference(alloc, shown, kept)?;
+    let at = difference.kept;
+    let name = absent_at(shown, difference.shown);
     if !name.is_empty() && !has_absent(kept, name) {
         let used = first_use(MAX_LISTS, at, last(name), list_of(&node.body));
         let why = Why::Undeclared(Vec::from_slice(alloc, name)?);
         return Ok(fault(used.unwrap_or(at), why));
     }
-    let word = Vec::from_slice(alloc, word_at(past_space(shown, at), shown))?;
+    let word = Vec::from_slice(alloc, word_at(past_space(shown, difference.shown), shown))?;
     Ok(fault(past_space(kept, at), Why::Otherwise(word)))
+}
+
+// Whether two texts differ in nothing that counts.
+fn are_alike(alloc: Global, one: &[u8], other: &[u8]) -> Result<bool, AllocError>
+    ensures { IfOk result (λ same. same ≡ true → alike one.now ≡ alike other.now) }
+{
+    if one == other {
+        return Ok(true);
+    }
+    Ok(alike(alloc, one)? == alike(alloc, other)?)
 }
 
 // Refuses a block whose ASL is another text, at the first word that differs.
@@ -289,10 +337,10 @@ fn check(
         return Err(fault(node.at, Why::Block));
     }
     let shown = shown(alloc, kept, node, called, block)?;
-    if shown.as_slice() == kept {
+    if are_alike(alloc, kept, &shown)? {
         return Ok(());
     }
-    if after_note(&shown) == kept {
+    if are_alike(alloc, kept, after_note(&shown))? {
         return Ok(());
     }
     Err(unlike(alloc, noted_as(&shown, kept), kept, node)?)

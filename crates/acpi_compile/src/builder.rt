@@ -100,9 +100,9 @@ impl<'a> Builder<'a> {
         Ok(())
     }
 
-    // Ends the innermost list, which belongs to the last node of the list around it.
+    // Ends the innermost list, which belongs to the last node of the list around it. In braces nothing has to follow the last comma.
     fn close(&mut self, at: usize, braces: bool) -> Result<(), AslError> {
-        if self.inner.commas {
+        if self.inner.commas && !self.inner.braces {
             self.fill(at)?;
         }
         let Some(outer) = self.outer.pop() else {

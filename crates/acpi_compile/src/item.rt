@@ -3,7 +3,7 @@
 use crate::argument::{below, byte_at, number_at, string_at};
 use crate::constant::bytes_of;
 use crate::fault::{AslError, Why, fault};
-use crate::node::{Node, list_of};
+use crate::node::{Node, list_of, word_node};
 use crate::word::{byte_of, number_in};
 use acpi_asl::content::value_of;
 use acpi_asl::descriptor::{Bits, Braces, Check, Offset, Part, words};
@@ -280,6 +280,24 @@ fn push_part(
     Ok(())
 }
 
+// Whether an argument may be left out with the comma before it, if no other follows it.
+fn may_lack(part: Part) -> bool {
+    matches!(
+        part,
+        Part::Blank | Part::Tag(..) | Part::Vendor(..) | Part::Index(_) | Part::Source(_)
+    )
+}
+
+// Refuses more arguments than a macro has. One more comma may stand before the closing parenthesis.
+fn check_count(count: usize, node: &Node<'_>) -> Result<(), AslError> {
+    let arguments = list_of(&node.arguments);
+    match arguments.get(count..) {
+        None | Some([]) => Ok(()),
+        Some([last]) if last.is_absent() => Ok(()),
+        Some(_) => Err(fault(node.at, Why::Takes(count, arguments.len()))),
+    }
+}
+
 // Adds the arguments of a macro.
 fn push_parts(
     alloc: Global,
@@ -288,12 +306,16 @@ fn push_parts(
     item: &mut Vec<u8>,
 ) -> Result<(), AslError> {
     let arguments = list_of(&node.arguments);
-    if parts.len() != arguments.len() {
-        return Err(fault(node.at, Why::Takes(parts.len(), arguments.len())));
-    }
+    check_count(parts.len(), node)?;
+    let absent = word_node(node.at, &[], &[]);
     // The index stands before the source in all macros but ClockInput.
     let (mut has_index, mut has_source) = (true, false);
-    'parts: for (part, argument) in parts.iter().zip(arguments) {
+    'parts: for (i, part) in parts.iter().enumerate() {
+        let argument = match arguments.get(i) {
+            Some(argument) => argument,
+            None if may_lack(*part) => &absent,
+            None => return Err(fault(node.at, Why::Takes(parts.len(), arguments.len()))),
+        };
         match part {
             Part::Index(_) if has_source && argument.is_absent() => {
                 return Err(fault(argument.at, Why::Index));

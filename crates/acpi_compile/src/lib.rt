@@ -1,6 +1,7 @@
 //! ASL as a text, made into the definition block that it is the ASL of (ACPI 6.5, chapter 19).
 #![tactic(auto)]
 
+mod alike;
 mod argument;
 pub mod block;
 mod builder;

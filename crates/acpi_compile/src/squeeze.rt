@@ -1,4 +1,5 @@
-//! The text of ASL without what a compiler skips: white space and comments (ACPI 6.5, 19.2.1).
+//! The text of ASL without what a compiler skips: white space, comments, and semicolons after statements (ACPI 6.5, 19.2.1 and
+//! 19.2.3).
 
 ghost use Rattle.std.specs.Prelude.{◌≡◌, ◌≤◌, ◌++◌, false, length, OnOk, IfOk};
 ghost use Rattle.acpi_compile.specs.Squeeze.{is_word, is_white, gapped, next_in_code, next_state, code_bytes, emitted};
@@ -54,10 +55,11 @@ pub fn is_word(c: u8) -> bool
         || c == b'\\'
 }
 
+// Returns whether a character is white space, or a semicolon.
 fn is_white(c: u8) -> bool
     ensures { result ≡ is_white c }
 {
-    c == b' ' || c == b'\t' || c == b'\n' || c == b'\r'
+    c == b' ' || c == b'\t' || c == b'\n' || c == b'\r' || c == b';'
 }
 
 fn gapped(last: Last) -> Last
