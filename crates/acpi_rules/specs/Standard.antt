@@ -368,6 +368,21 @@ bounded =
     ∷ rule "TCPA" Whole (Is (Word 36) 65535 0) (spot 4 4 "Length") (between 50 50) "TCG ACPI Specification 1.4"
     ∷ rule "TCPA" Whole (Is (Word 36) 65535 1) (spot 4 4 "Length") (between 100 100) "TCG ACPI Specification 1.4"
     ∷ rule "RSD " Whole (Is (DWord 20) 0xffffffff 36) (spot 15 1 "Revision") (between 2 255) "ACPI 6.5, 5.2.5.3"
+    -- A window has as many targets as ways.
+    ∷ rule "CEDT" (Kind 1) (Is (Byte 24) 255 0) (spot 2 2 "Record Length") (between 40 40) "CXL 3.0, 9.17.1"
+    ∷ rule "CEDT" (Kind 1) (Is (Byte 24) 255 1) (spot 2 2 "Record Length") (between 44 44) "CXL 3.0, 9.17.1"
+    ∷ rule "CEDT" (Kind 1) (Is (Byte 24) 255 2) (spot 2 2 "Record Length") (between 52 52) "CXL 3.0, 9.17.1"
+    ∷ rule "CEDT" (Kind 1) (Is (Byte 24) 255 3) (spot 2 2 "Record Length") (between 68 68) "CXL 3.0, 9.17.1"
+    ∷ rule "CEDT" (Kind 1) (Is (Byte 24) 255 4) (spot 2 2 "Record Length") (between 100 100) "CXL 3.0, 9.17.1"
+    ∷ rule "CEDT" (Kind 1) (Is (Byte 24) 255 8) (spot 2 2 "Record Length") (between 48 48) "CXL 3.0, 9.17.1"
+    ∷ rule "CEDT" (Kind 1) (Is (Byte 24) 255 9) (spot 2 2 "Record Length") (between 60 60) "CXL 3.0, 9.17.1"
+    ∷ rule "CEDT" (Kind 1) (Is (Byte 24) 255 10) (spot 2 2 "Record Length") (between 84 84) "CXL 3.0, 9.17.1"
+    -- The length of a header: with or without that of all tables in EINJ and ERST, as Linux takes both.
+    ∷ rule "EINJ" Whole Always (spot 36 4 "Injection Header Size") (between 12 48) "ACPI 6.5, 18.6.1"
+    ∷ rule "ERST" Whole Always (spot 36 4 "Serialization Header Size") (between 12 48) "ACPI 6.5, 18.5.1"
+    ∷ rule "WDAT" Whole Always (spot 36 4 "Watchdog Header Length") (between 32 32) "Microsoft WDAT"
+    ∷ rule "HEST" (Kind 9) Always (spot 33 1 "Length") (between 28 28) "ACPI 6.5, 18.3.2.9"
+    ∷ rule "HEST" (Kind 10) Always (spot 33 1 "Length") (between 28 28) "ACPI 6.5, 18.3.2.9"
     ∷ []
 
 -- Fields that are those of other structures of a table.

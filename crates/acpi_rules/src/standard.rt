@@ -436,7 +436,7 @@ const ALIGNED: [Relation; 17] = [
 
 // Ranges of fields at an offset of a table or of a structure. Some depend on other fields.
 #[rattlefmt::skip]
-const BOUNDED: [Relation; 27] = [
+const BOUNDED: [Relation; 40] = [
     rule!("FACP", Whole, Is(DWord(112), 1024, 1024), spot!(116, 1, "Address Space ID"), Between(0, 2), "ACPI 6.5, 5.2.9"),
     rule!("FACP", Whole, Is(DWord(112), 1024, 1024), spot!(117, 1, "Register Bit Width"), Between(8, 8), "ACPI 6.5, 5.2.9"),
     rule!("FACP", Whole, Is(DWord(112), 1024, 1024), spot!(118, 1, "Register Bit Offset"), Between(0, 0), "ACPI 6.5, 5.2.9"),
@@ -470,6 +470,21 @@ const BOUNDED: [Relation; 27] = [
     rule!("TCPA", Whole, Is(Word(36), 65535, 1), spot!(4, 4, "Length"), Between(100, 100), "TCG ACPI Specification 1.4"),
     // An RSDP of 36 bytes has the revision 2 or a later one.
     rule!("RSD ", Whole, Is(DWord(20), 0xffff_ffff, 36), spot!(15, 1, "Revision"), Between(2, 255), "ACPI 6.5, 5.2.5.3"),
+    // A window has as many targets as ways.
+    rule!("CEDT", Kind(1), Is(Byte(24), 255, 0), spot!(2, 2, "Record Length"), Between(40, 40), "CXL 3.0, 9.17.1"),
+    rule!("CEDT", Kind(1), Is(Byte(24), 255, 1), spot!(2, 2, "Record Length"), Between(44, 44), "CXL 3.0, 9.17.1"),
+    rule!("CEDT", Kind(1), Is(Byte(24), 255, 2), spot!(2, 2, "Record Length"), Between(52, 52), "CXL 3.0, 9.17.1"),
+    rule!("CEDT", Kind(1), Is(Byte(24), 255, 3), spot!(2, 2, "Record Length"), Between(68, 68), "CXL 3.0, 9.17.1"),
+    rule!("CEDT", Kind(1), Is(Byte(24), 255, 4), spot!(2, 2, "Record Length"), Between(100, 100), "CXL 3.0, 9.17.1"),
+    rule!("CEDT", Kind(1), Is(Byte(24), 255, 8), spot!(2, 2, "Record Length"), Between(48, 48), "CXL 3.0, 9.17.1"),
+    rule!("CEDT", Kind(1), Is(Byte(24), 255, 9), spot!(2, 2, "Record Length"), Between(60, 60), "CXL 3.0, 9.17.1"),
+    rule!("CEDT", Kind(1), Is(Byte(24), 255, 10), spot!(2, 2, "Record Length"), Between(84, 84), "CXL 3.0, 9.17.1"),
+    // The length of a header: with or without that of all tables in EINJ and ERST, as Linux takes both.
+    rule!("EINJ", Whole, Always, spot!(36, 4, "Injection Header Size"), Between(12, 48), "ACPI 6.5, 18.6.1"),
+    rule!("ERST", Whole, Always, spot!(36, 4, "Serialization Header Size"), Between(12, 48), "ACPI 6.5, 18.5.1"),
+    rule!("WDAT", Whole, Always, spot!(36, 4, "Watchdog Header Length"), Between(32, 32), "Microsoft WDAT"),
+    rule!("HEST", Kind(9), Always, spot!(33, 1, "Length"), Between(28, 28), "ACPI 6.5, 18.3.2.9"),
+    rule!("HEST", Kind(10), Always, spot!(33, 1, "Length"), Between(28, 28), "ACPI 6.5, 18.3.2.9"),
 ];
 
 /// The rules on fields that are those of other structures of a table.
