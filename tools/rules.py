@@ -23,6 +23,7 @@ NAMES = {"Differs": "unique", "Apart": "overlap", "Disjoint": "disjoint", "AtMos
 NAMES.update({"Counts": "count", "Agrees": "pair", "Needed": "required", "Needs": "needs", "Between": "range"})
 NAMES.update({"Multiple": "multiple", "Points": "reference", "Refers": "reference", "Ends": "cycle", "Distances": "distance"})
 NAMES.update({"Includes": "present", "NotAll": "not-all", "Inside": "inside"})
+NAMES.update({"DiffersIn": "unique", "DiffersWith": "unique", "Blocks": "no-overflow", "All": "range"})
 
 
 def stop(why):
@@ -121,6 +122,10 @@ def demand(text, named):
     kind, arguments = call(text)
     if kind == "Differs":
         return "differs in all of them"
+    if kind == "DiffersWith":
+        return f"differs in all of them that have the same {spot(arguments[0])[2]}"
+    if kind == "DiffersIn":
+        return f"differs in all of them that one structure of type {arguments[0]} has"
     if kind == "Apart":
         return f"the numbers up to {spot(arguments[1])[2]} aren't those of another with the same {spot(arguments[0])[2]}"
     if kind == "Disjoint":
@@ -129,8 +134,12 @@ def demand(text, named):
         return f"isn't greater than {spot(arguments[0])[2]}"
     if kind == "Addresses":
         return f"ends before 2^64 with {spot(arguments[0])[2]}"
+    if kind == "Blocks":
+        each = number(arguments[1])
+        return f"blocks of {each} bytes for the numbers from 0 to {spot(arguments[0])[2]}, which begin there, end before 2^64"
     if kind == "Inside":
-        return f"as many bytes as {spot(arguments[0])[2]} says, which begin at this offset, stand in the structure or the table"
+        many = "bytes" if arguments[1] == "1" else f"entries of {arguments[1]} bytes"
+        return f"as many {many} as {spot(arguments[0])[2]} says, which begin at this offset, stand in the structure or the table"
     if kind == "Counts":
         each = "one byte" if arguments[1] == "1" else f"{arguments[1]} bytes"
         return f"is at most the number of entries of {each} for which there is space from offset {arguments[0]} on"
@@ -146,6 +155,8 @@ def demand(text, named):
         return f"is a multiple of {number(arguments[0])}"
     if kind == "NotAll":
         return f"doesn't have all of the bits {number(arguments[0]):#x}"
+    if kind == "All":
+        return f"has all of the bits {number(arguments[0]):#x}"
     if kind == "Points":
         return f"is zero, or the offset of a structure of {types(arguments[0].strip('&[]').split(', '))}"
     if kind == "Refers":

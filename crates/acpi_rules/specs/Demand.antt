@@ -17,13 +17,16 @@ spot_by s = record { offset = s.offset; width = s.width; name = s.name.now }
 
 -- What a rule demands of a field in each of some parts of a table:
 -- - differs: no two of the parts have the same bytes there;
+-- - differs_with: no two of the parts have the same bytes there and the same in another field;
+-- - differs_in: no two of the parts of one structure of this type have the same bytes there;
 -- - apart: the numbers from there to a last one have none in common with those of another part that has the same bytes in a
 --   third field;
 -- - disjoint: a range of addresses that begins there, and as long as another field says, has none in common with that of another
 --   part;
 -- - at_most: it isn't greater than another field of its part;
 -- - addresses: a range that begins there, and as long as another field says, ends before 2^64;
--- - inside: as many bytes as another field says, which begin at the offset that it has, stand in its part;
+-- - blocks: blocks of a size for the numbers from 0 to that of another field, of which the first begins there, end before 2^64;
+-- - inside: as many entries of a size as another field says, which begin at the offset that it has, stand in its part;
 -- - counts: as many entries of this size as it says stand between this offset and the part's end;
 -- - agrees: it is the number in another field of its part, unless one of them is zero;
 -- - needed: it isn't zero, or another field of its part isn't;
@@ -31,6 +34,7 @@ spot_by s = record { offset = s.offset; width = s.width; name = s.name.now }
 -- - between: it is from one number to another;
 -- - multiple: it is a multiple of a number;
 -- - not_all: the bits of a mask aren't all set in it;
+-- - all: the bits of a mask are all set in it;
 -- - points: it is zero, or the offset of a structure of one of these types;
 -- - refers: it is zero, or the number in this field of a structure of this type;
 -- - ends: parts of which each has the offset of the next one there come to an end;
@@ -38,11 +42,14 @@ spot_by s = record { offset = s.offset; width = s.width; name = s.name.now }
 -- - includes: the table has a part that is one of these, and the text says what they are.
 pub data Demand : Type 0 where
   differs : Demand
+  differs_with : Spot → Demand
+  differs_in : ℕ → Demand
   apart : Spot → Spot → Demand
   disjoint : Spot → Demand
   at_most : Spot → Demand
   addresses : Spot → Demand
-  inside : Spot → Demand
+  blocks : Spot → ℕ → Demand
+  inside : Spot → ℕ → Demand
   counts : ℕ → ℕ → Demand
   agrees : Spot → Demand
   needed : Spot → Demand
@@ -50,6 +57,7 @@ pub data Demand : Type 0 where
   between : ℕ → ℕ → Demand
   multiple : ℕ → Demand
   not_all : ℕ → Demand
+  all : ℕ → Demand
   points : List ℕ → Demand
   refers : ℕ → Spot → Demand
   ends : Demand
@@ -58,11 +66,14 @@ pub data Demand : Type 0 where
 
 abbrev pub demand_by : DemandData → Demand
 demand_by demands.Differs = differs
+demand_by (demands.DiffersWith other) = differs_with (spot_by other)
+demand_by (demands.DiffersIn kind) = differs_in kind
 demand_by (demands.Apart group last) = apart (spot_by group) (spot_by last)
 demand_by (demands.Disjoint size) = disjoint (spot_by size)
 demand_by (demands.AtMost other) = at_most (spot_by other)
 demand_by (demands.Addresses size) = addresses (spot_by size)
-demand_by (demands.Inside size) = inside (spot_by size)
+demand_by (demands.Blocks last size) = blocks (spot_by last) size
+demand_by (demands.Inside number size) = inside (spot_by number) size
 demand_by (demands.Counts start size) = counts start size
 demand_by (demands.Agrees other) = agrees (spot_by other)
 demand_by (demands.Needed other) = needed (spot_by other)
@@ -70,6 +81,7 @@ demand_by (demands.Needs other) = needs (spot_by other)
 demand_by (demands.Between from to) = between from to
 demand_by (demands.Multiple unit) = multiple unit
 demand_by (demands.NotAll mask) = not_all mask
+demand_by (demands.All mask) = all mask
 demand_by (demands.Points types) = points types.now
 demand_by (demands.Refers kind spot) = refers kind (spot_by spot)
 demand_by demands.Ends = ends

@@ -10,6 +10,7 @@ pub mod Order
 pub mod Matrix
 pub mod Reference
 pub mod Chain
+pub mod Sibling
 pub mod Relation
 pub mod Standard
 pub mod Link

@@ -2,7 +2,7 @@
 use Rattle.std.specs.Prelude.{ℕ, ◌==◌, ◌||◌, Bool, false, if◌then◌else◌, List, [], ◌∷◌, length, map, Option, codes}
 use Rattle.std.specs.List.{flat_map}
 use Rattle.acpi_base.specs.declared.walk.Walk.{Walk}
-use Rattle.acpi_rules.specs.Demand.{Spot, Demand, points, refers, includes}
+use Rattle.acpi_rules.specs.Demand.{Spot, Demand, differs_in, points, refers, includes}
 use Rattle.acpi_rules.specs.Finding.{Finding}
 use Rattle.acpi_rules.specs.Item.{Item, items}
 use Rattle.acpi_rules.specs.Related.{relates}
@@ -30,6 +30,7 @@ starts walk bytes kind = starts_among walk bytes (of_kind kind)
 
 -- the numbers that a demand allows besides zero, or the offsets of the parts that it speaks of
 abbrev pub targets : Demand → Option Walk → List ℕ → List ℕ
+targets (differs_in kind) walk bytes = starts walk bytes kind
 targets (points types) walk bytes = flat_map (starts walk bytes) types
 targets (refers kind spot) walk bytes = map (λ item. number_of item.field) (items (of_kind kind) spot walk bytes)
 targets (includes parts what) walk bytes = flat_map (starts_among walk bytes) parts

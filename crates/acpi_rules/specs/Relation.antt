@@ -5,16 +5,20 @@ use Rattle.std.specs.Str.{bytes_eq}
 use Rattle.acpi_base.specs.declared.walk.Walk.{Walk}
 use Rattle.acpi_rules.specs.Apart.{apart_findings}
 use Rattle.acpi_rules.specs.Chain.{chain_findings}
-use Rattle.acpi_rules.specs.Demand.{Demand, Relation, differs, apart, disjoint, points, refers, ends, distances, includes}
+use Rattle.acpi_rules.specs.Demand.{Demand, Relation, differs, differs_with, apart, disjoint, points, refers, ends, distances}
+use Rattle.acpi_rules.specs.Demand.{differs_in, includes}
 use Rattle.acpi_rules.specs.Finding.{Finding}
 use Rattle.acpi_rules.specs.Item.{Item, items}
 use Rattle.acpi_rules.specs.Matrix.{matrix_findings}
 use Rattle.acpi_rules.specs.Order.{number_findings}
 use Rattle.acpi_rules.specs.Reference.{targets, target_name, reference_findings, present_findings}
+use Rattle.acpi_rules.specs.Sibling.{sibling_findings}
 
 -- what parts of a table break of a demand on their field at an offset, where these are the numbers that are its targets
 abbrev pub demand_findings : Demand → ℕ → List ℕ → List ℕ → List Item → List Finding
 demand_findings differs at section numbers parts = apart_findings differs section [] parts
+demand_findings (differs_with other) at section numbers parts = apart_findings (differs_with other) section [] parts
+demand_findings (differs_in kind) at section numbers parts = sibling_findings section numbers [] parts
 demand_findings (apart group last) at section numbers parts = apart_findings (apart group last) section [] parts
 demand_findings (disjoint size) at section numbers parts = apart_findings (disjoint size) section [] parts
 demand_findings (points types) at section numbers parts =

@@ -10,8 +10,9 @@ use Rattle.acpi_rules.specs.declared.demand.Of.{Of}
 use Rattle.acpi_rules.specs.declared.demand.Of.TheVariants.{Whole, Each, Kind, Entries}
 use Rattle.acpi_rules.specs.declared.demand.When.{When}
 use Rattle.acpi_rules.specs.declared.demand.When.TheVariants.{Always, Is, Not}
-use Rattle.acpi_rules.specs.Demand.{Spot, Demand, Relation, differs, apart, disjoint, at_most, addresses, counts, agrees, needed}
-use Rattle.acpi_rules.specs.Demand.{needs, between, inside, multiple, not_all, points, refers, ends, distances, includes}
+use Rattle.acpi_rules.specs.Demand.{Spot, Demand, Relation, differs, differs_with, apart, disjoint, at_most, addresses, blocks}
+use Rattle.acpi_rules.specs.Demand.{counts, agrees, needed, needs, between, inside, multiple, not_all, all, points, refers, ends}
+use Rattle.acpi_rules.specs.Demand.{differs_in, distances, includes}
 use Rattle.acpi_rules.specs.Field.{table_fields}
 use Rattle.acpi_rules.specs.Finding.{Finding}
 use Rattle.acpi_rules.specs.Relation.{relations_findings}
@@ -172,13 +173,17 @@ numbered =
 -- Numbers and addresses that no two structures of another table have.
 unfoldable pub different : List Relation
 different =
-    rule "SRAT" (Kind 2) (Is (DWord 12) 1 1) (spot 8 4 "X2APIC ID") differs "ACPI 6.5, 5.2.16.3"
+    rule "SRAT" (Kind 0) (Is (DWord 4) 1 1) (spot 3 1 "APIC ID") (differs_with (spot 8 1 "Local SAPIC EID")) "ACPI 6.5, 5.2.16.1"
+    ∷ rule "SRAT" (Kind 2) (Is (DWord 12) 1 1) (spot 8 4 "X2APIC ID") differs "ACPI 6.5, 5.2.16.3"
     ∷ rule "SRAT" (Kind 3) (Is (DWord 10) 1 1) (spot 6 4 "ACPI Processor UID") differs "ACPI 6.5, 5.2.16.4"
     ∷ rule "SRAT" (Kind 4) Always (spot 8 4 "ITS ID") differs "ACPI 6.5, 5.2.16.5"
     ∷ rule "SRAT" (Kind 7) (Is (DWord 12) 1 1) (spot 8 4 "ACPI Processor UID") differs "ACPI 6.6, 5.2.16"
     ∷ rule "PPTT" (Kind 0) (Is (DWord 4) 10 10) (spot 12 4 "ACPI Processor ID") differs "ACPI 6.5, 5.2.30.1"
     ∷ rule "PPTT" (Kind 1) (Is (DWord 4) 128 128) (spot 24 4 "Cache ID") differs "ACPI 6.5, 5.2.30.2"
     ∷ rule "HEST" Each Always (spot 2 2 "Source Id") differs "ACPI 6.5, 18.3.2"
+    -- Frames of a block of timers.
+    ∷ rule "GTDT" (Entries 0 (DWord 16) 20 (Field (DWord 12)) 40) Always (spot 0 1 "GT Frame Number") (differs_in 0)
+    "ACPI 6.5, 5.2.25.1"
     ∷ rule "NFIT" (Kind 0) Always (spot 4 2 "SPA Range Structure Index") differs "ACPI 6.5, 5.2.26.2"
     ∷ rule "NFIT" (Kind 2) Always (spot 4 2 "Interleave Structure Index") differs "ACPI 6.5, 5.2.26.4"
     ∷ rule "NFIT" (Kind 4) Always (spot 4 2 "NVDIMM Control Region Structure Index") differs "ACPI 6.5, 5.2.26.6"
@@ -239,6 +244,8 @@ ordered =
     "AMD 48882, 5.2"
     ∷ rule "TPM2" Whole Always (spot 68 8 "Log Area Start Address") (addresses (spot 64 4 "Log Area Minimum Length"))
     "TCG ACPI Specification 1.4, 8"
+    -- Buses of 1 MiB from bus 0 on, which begins at the base address also if the first bus is another one.
+    ∷ rule "MCFG" Each Always (spot 0 8 "Base Address") (blocks (spot 11 1 "End Bus Number") 0x100000) "PCI Firmware 3.3, 4.1.2"
     ∷ []
 
 -- Structures that have as many entries as they say, and the bytes of which they have the offsets.
@@ -263,18 +270,22 @@ counted =
     -- A node has 32 bytes at least.
     ∷ rule "MPST" Whole Always (spot 40 2 "Memory Power Node Count") (counts 44 32) "ACPI 6.5, 5.2.22"
     -- Bytes at an offset.
-    ∷ rule "SDEV" (Kind 0) Always (spot 4 2 "Device Identifier Offset") (inside (spot 6 2 "Device Identifier Length"))
+    ∷ rule "SDEV" (Kind 0) Always (spot 4 2 "Device Identifier Offset") (inside (spot 6 2 "Device Identifier Length") 1)
     "ACPI 6.5, 5.2.27"
-    ∷ rule "SDEV" (Kind 0) Always (spot 8 2 "Vendor Specific Data Offset") (inside (spot 10 2 "Vendor Specific Data Length"))
+    ∷ rule "SDEV" (Kind 0) Always (spot 8 2 "Vendor Specific Data Offset") (inside (spot 10 2 "Vendor Specific Data Length") 1)
     "ACPI 6.5, 5.2.27"
     ∷ rule "SDEV" (Kind 0) (Is (Byte 1) 2 2) (spot 12 2 "Secure Access Components Offset")
-    (inside (spot 14 2 "Secure Access Components Length")) "ACPI 6.5, 5.2.27"
-    ∷ rule "SDEV" (Kind 1) Always (spot 8 2 "PCI Path Offset") (inside (spot 10 2 "PCI Path Length")) "ACPI 6.5, 5.2.27"
-    ∷ rule "SDEV" (Kind 1) Always (spot 12 2 "Vendor Specific Data Offset") (inside (spot 14 2 "Vendor Specific Data Length"))
+    (inside (spot 14 2 "Secure Access Components Length") 1) "ACPI 6.5, 5.2.27"
+    ∷ rule "SDEV" (Kind 1) Always (spot 8 2 "PCI Path Offset") (inside (spot 10 2 "PCI Path Length") 1) "ACPI 6.5, 5.2.27"
+    ∷ rule "SDEV" (Kind 1) Always (spot 12 2 "Vendor Specific Data Offset") (inside (spot 14 2 "Vendor Specific Data Length") 1)
     "ACPI 6.5, 5.2.27"
-    ∷ rule "DBG2" Each Always (spot 6 2 "NamespaceStringOffset") (inside (spot 4 2 "NamespaceStringLength")) "Microsoft DBG2"
-    ∷ rule "DBG2" Each Always (spot 10 2 "OemDataOffset") (inside (spot 8 2 "OemDataLength")) "Microsoft DBG2"
-    ∷ rule "SPCR" Whole Always (spot 86 2 "NamespaceStringOffset") (inside (spot 84 2 "NamespaceStringLength")) "Microsoft SPCR"
+    ∷ rule "DBG2" Each Always (spot 6 2 "NamespaceStringOffset") (inside (spot 4 2 "NamespaceStringLength") 1) "Microsoft DBG2"
+    ∷ rule "DBG2" Each Always (spot 10 2 "OemDataOffset") (inside (spot 8 2 "OemDataLength") 1) "Microsoft DBG2"
+    ∷ rule "DBG2" Each Always (spot 18 2 "BaseAddressRegisterOffset")
+    (inside (spot 3 1 "NumberofGenericAddressRegisters") 12) "Microsoft DBG2"
+    ∷ rule "DBG2" Each Always (spot 20 2 "AddressSizeOffset") (inside (spot 3 1 "NumberofGenericAddressRegisters") 4)
+    "Microsoft DBG2"
+    ∷ rule "SPCR" Whole Always (spot 86 2 "NamespaceStringOffset") (inside (spot 84 2 "NamespaceStringLength") 1) "Microsoft SPCR"
     -- Distances (5.2.17).
     ∷ rule "SLIT" Whole Always (spot 36 8 "Number of System Localities") (distances (spot 44 1 "Distances from a Locality"))
     "ACPI 6.5, 5.2.17"
@@ -313,7 +324,7 @@ paired =
     ∷ rule "FACP" Whole (Is (DWord 112) 0x100000 0) (spot 76 4 "PM_TMR_BLK") (needs (spot 91 1 "PM_TMR_LEN")) "ACPI 6.5, 5.2.9"
     ∷ []
 
--- Fields that are multiples of numbers, or that have bits of which one is zero.
+-- Fields that are multiples of numbers, or that have bits that are all set, or of which one is zero.
 unfoldable pub aligned : List Relation
 aligned =
     rule "FACP" Whole Always (spot 36 4 "FIRMWARE_CTRL") (multiple 64) "ACPI 6.5, 5.2.10"
@@ -322,6 +333,7 @@ aligned =
     ∷ rule "FACP" Whole (Is (DWord 112) 0x100000 0) (spot 93 1 "GPE1_BLK_LEN") (multiple 2) "ACPI 6.5, 5.2.9"
     ∷ rule "DMAR" (Kind 0) Always (spot 8 8 "Register Base Address") (multiple 4096) "VT-d 4.1, 8.3"
     ∷ rule "DMAR" (Kind 1) Always (spot 8 8 "Reserved Memory Region Base Address") (multiple 4096) "VT-d 4.1, 8.4"
+    ∷ rule "DMAR" (Kind 1) Always (spot 16 8 "Reserved Memory Region Limit Address") (all 4095) "VT-d 4.1, 8.4"
     ∷ rule "CEDT" (Kind 1) Always (spot 8 8 "Base HPA") (multiple 0x10000000) "CXL 3.0, 9.17.1"
     ∷ rule "CEDT" (Kind 1) Always (spot 16 8 "Window Size") (multiple 0x10000000) "CXL 3.0, 9.17.1"
     ∷ rule "IORT" (Entries 6 (DWord 24) 28 (Field (DWord 20)) 20) Always (spot 0 8 "Physical Range Offset") (multiple 0x10000)
@@ -336,6 +348,11 @@ aligned =
     ∷ rule "APIC" (Kind 9) Always (spot 8 4 "Flags") (not_all 3) "ACPI 6.5, 5.2.12.12"
     ∷ rule "APIC" (Kind 11) Always (spot 12 4 "Flags") (not_all 9) "ACPI 6.5, 5.2.12.14"
     ∷ rule "APIC" (Kind 24) Always (spot 4 4 "Flags") (not_all 3) "ACPI 6.6, 5.2.12"
+    -- The Cache Level (bits 7:4) isn't above the Total Cache Levels (bits 3:0): it isn't 1 or 3 if these are 0, not 2 or 3 if
+    -- they are 0 or 1, and not 3 if they are 2.
+    ∷ rule "HMAT" (Kind 2) (Is (DWord 24) 15 0) (spot 24 4 "Cache Attributes") (not_all 16) "ACPI 6.5, 5.2.28.5"
+    ∷ rule "HMAT" (Kind 2) (Is (DWord 24) 14 0) (spot 24 4 "Cache Attributes") (not_all 32) "ACPI 6.5, 5.2.28.5"
+    ∷ rule "HMAT" (Kind 2) (Is (DWord 24) 15 2) (spot 24 4 "Cache Attributes") (not_all 48) "ACPI 6.5, 5.2.28.5"
     ∷ []
 
 -- Fields whose range depends on other fields, or on the type of a structure.

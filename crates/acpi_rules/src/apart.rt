@@ -1,7 +1,7 @@
 //! The rules on two parts of a table that have something in common.
 
 ghost use Rattle.std.specs.Prelude.{◌≡◌, ◌++◌, [], map, OnOk};
-ghost use Rattle.acpi_rules.specs.Apart.{overlap, reaches, clash, first_clash, clash_findings, apart_findings};
+ghost use Rattle.acpi_rules.specs.Apart.{matches, overlap, reaches, clash, first_clash, clash_findings, apart_findings};
 ghost use Rattle.acpi_rules.specs.Demand.{spot_by, demand_by};
 ghost use Rattle.acpi_rules.specs.Finding.{noted};
 ghost use Rattle.acpi_rules.specs.Item.{item_by};
@@ -12,6 +12,13 @@ use crate::item::{Item, bytes_in, number_in};
 use crate::related::{Said, add_related};
 use crate::rules::number_of;
 use std::alloc::AllocError;
+
+// Returns whether two parts have the same bytes in the field of which a rule speaks, and in another one.
+fn matches(other: &Spot, a: &Item<'_>, b: &Item<'_>) -> bool
+    ensures { result ≡ matches (spot_by other.now) (item_by a.now) (item_by b.now) }
+{
+    a.field.bytes == b.field.bytes && bytes_in(other, a.bytes) == bytes_in(other, b.bytes)
+}
 
 // Returns whether two parts have the same bytes in a field, and ranges that have a number in common.
 fn overlap(group: &Spot, last: &Spot, a: &Item<'_>, b: &Item<'_>) -> bool
@@ -36,11 +43,14 @@ fn clash(demand: &Demand, a: &Item<'_>, b: &Item<'_>) -> bool
 {
     match *demand {
         Demand::Differs => a.field.bytes == b.field.bytes,
+        Demand::DiffersWith(other) => matches(&other, a, b),
         Demand::Apart(group, last) => overlap(&group, &last, a, b),
         Demand::Disjoint(size) => reaches(&size, a, b) && reaches(&size, b, a),
-        Demand::AtMost(_)
+        Demand::DiffersIn(_)
+        | Demand::AtMost(_)
         | Demand::Addresses(_)
-        | Demand::Inside(_)
+        | Demand::Blocks(_, _)
+        | Demand::Inside(_, _)
         | Demand::Counts(_, _)
         | Demand::Agrees(_)
         | Demand::Needed(_)
@@ -48,6 +58,7 @@ fn clash(demand: &Demand, a: &Item<'_>, b: &Item<'_>) -> bool
         | Demand::Between(_, _)
         | Demand::Multiple(_)
         | Demand::NotAll(_)
+        | Demand::All(_)
         | Demand::Points(_)
         | Demand::Refers(_, _)
         | Demand::Ends
@@ -80,7 +91,7 @@ fn check_clash<'a>(
         ++ clash_findings (demand_by demand.now) section.now (item_by item.now) before) }
 {
     match (*demand, before) {
-        (Demand::Differs, Some(at)) => {
+        (Demand::Differs | Demand::DiffersWith(_), Some(at)) => {
             let said = Said {
                 section,
                 number: at as u64,

@@ -53,6 +53,10 @@ pub struct Among {
 pub enum Demand {
     /// No two of the parts have the same bytes in the field.
     Differs,
+    /// No two of the parts have the same bytes in the field and the same in this one.
+    DiffersWith(Spot),
+    /// No two of the parts of one structure of this type have the same bytes in the field.
+    DiffersIn(usize),
     /// The numbers from the field to the second of these have none in common with those of another part that has the same bytes
     /// in the first.
     Apart(Spot, Spot),
@@ -63,8 +67,10 @@ pub enum Demand {
     AtMost(Spot),
     /// A range that begins at the field, and is as long as this one says, ends before 2^64.
     Addresses(Spot),
-    /// As many bytes as this one says, which begin at the offset that the field has, stand in the part.
-    Inside(Spot),
+    /// Blocks of this size for the numbers from 0 to that of this one, of which the first begins at the field, end before 2^64.
+    Blocks(Spot, u64),
+    /// As many entries of this size as this one says, which begin at the offset that the field has, stand in the part.
+    Inside(Spot, usize),
     /// As many entries as the field says stand between this offset and the part's end. The second number is an entry's size.
     Counts(usize, usize),
     /// The field has the number of this one, unless one of them is zero.
@@ -79,6 +85,8 @@ pub enum Demand {
     Multiple(u64),
     /// The bits of this mask aren't all set in the field.
     NotAll(u64),
+    /// The bits of this mask are all set in the field.
+    All(u64),
     /// The field is zero, or the offset of a structure of one of these types.
     Points(&'static [usize]),
     /// The field is zero, or the number in this one of a structure of this type.

@@ -11,9 +11,11 @@ pub enum Rule {
     ReservedValue,
     /// A structure of a type that has one length has this length. The number is this length.
     StructureLength,
-    /// A number is in a range. The number of the finding is the least that is allowed, and `most` the greatest.
+    /// A number is in a range. The number of the finding is the least that is allowed, and `most` the greatest. If bits have to
+    /// be set, both are the field's number with these bits.
     Range,
-    /// No two parts of a table have the same number in a field. The number is the offset of the first of them.
+    /// No two parts of a table, or of a structure, have the same number in a field, or the same numbers in two. The number is the
+    /// offset of the first of them.
     Unique,
     /// No two parts of a table have a number in common in their ranges. The number is the offset of the first of them.
     Overlap,
@@ -22,10 +24,10 @@ pub enum Rule {
     Disjoint,
     /// A number isn't greater than that of another field. The number is the other field's.
     AtMost,
-    /// A range of addresses ends before 2^64. The number is the length of the range.
+    /// A range of addresses ends before 2^64. The number is that of the field that says how long the range is.
     NoOverflow,
-    /// As many bytes as another field says, which begin at an offset, stand in a part of a table. The number is that of the other
-    /// field, and the greatest number is how many bytes the part has.
+    /// As many bytes or entries as another field says, which begin at an offset, stand in a part of a table. The number is that
+    /// of the other field, and the greatest number is how many bytes the part has.
     Inside,
     /// As many entries as a number says stand in a part of a table. The other number is how many bytes the part has.
     Count,

@@ -23,6 +23,7 @@ pub mod reference;
 pub mod related;
 pub mod relation;
 pub mod rules;
+pub mod sibling;
 pub mod single;
 pub mod standard;
 pub mod table;

@@ -5,9 +5,9 @@ ghost use Rattle.std.specs.List.{flat_map};
 ghost use Rattle.acpi_rules.specs.Demand.{spot_by, demand_by};
 ghost use Rattle.acpi_rules.specs.Finding.{noted};
 ghost use Rattle.acpi_rules.specs.Item.{item_by};
-ghost use Rattle.acpi_rules.specs.Order.{order_findings, address_findings, inside_findings, count_findings, pair_findings};
-ghost use Rattle.acpi_rules.specs.Order.{needed_findings, needs_findings, between_findings, multiple_findings, not_all_findings};
-ghost use Rattle.acpi_rules.specs.Order.{number_findings};
+ghost use Rattle.acpi_rules.specs.Order.{order_findings, address_findings, block_findings, inside_findings, count_findings};
+ghost use Rattle.acpi_rules.specs.Order.{pair_findings, needed_findings, needs_findings, between_findings, multiple_findings};
+ghost use Rattle.acpi_rules.specs.Order.{not_all_findings, all_findings, number_findings};
 
 use crate::demand::{Demand, Spot};
 use crate::finding::{Finding, Rule};
@@ -72,6 +72,45 @@ fn check_addresses<'a>(
     add_related(Rule::NoOverflow, &said, &item.field, findings)
 }
 
+// Returns whether the last address of the last block of a size is below 2^64.
+fn blocks_end_in_time(base: u64, last: u64, size: u64) -> bool
+    ensures { result ≡ nat_lt (base + size * last + (size - 1)) (2 ^ 64) }
+{
+    match size.checked_mul(last) {
+        Some(before) => {
+            match base.checked_add(before) {
+                Some(start) => ends_in_time(start, size),
+                None => false,
+            }
+        }
+        None => false,
+    }
+}
+
+// Adds that blocks of a size pass 2^64.
+fn check_blocks<'a>(
+    section: &'static str,
+    last: &Spot,
+    size: u64,
+    item: &Item<'a>,
+    findings: &mut Vec<Finding<'a>>,
+) -> Result<(), AllocError>
+    ensures { OnOk result (map noted findings.new.items ≡ map noted findings.old.items
+        ++ block_findings section.now (spot_by last.now) size (item_by item.now)) }
+{
+    let most = number_in(last, item.bytes);
+    if blocks_end_in_time(number_of(&item.field), most, size) {
+        return Ok(());
+    }
+    let said = Said {
+        section,
+        number: most,
+        most: 0,
+        other: last.name,
+    };
+    add_related(Rule::NoOverflow, &said, &item.field, findings)
+}
+
 // Returns whether bytes that begin at an offset end within a length. No bytes do at any offset.
 fn is_inside(start: u64, size: u64, length: usize) -> bool
     ensures { result ≡ (size == 0 || nat_le (start + size) length) }
@@ -82,25 +121,36 @@ fn is_inside(start: u64, size: u64, length: usize) -> bool
     }
 }
 
-// Adds that a part ends before the bytes at an offset do.
+// Returns whether entries of a size that begin at an offset end within a length.
+fn are_inside(start: u64, size: usize, number: u64, length: usize) -> bool
+    ensures { result ≡ (size * number == 0 || nat_le (start + size * number) length) }
+{
+    match (size as u64).checked_mul(number) {
+        Some(long) => is_inside(start, long, length),
+        None => false,
+    }
+}
+
+// Adds that a part ends before the entries of a size at an offset do.
 fn check_inside<'a>(
     section: &'static str,
-    size: &Spot,
+    number: &Spot,
+    size: usize,
     item: &Item<'a>,
     findings: &mut Vec<Finding<'a>>,
 ) -> Result<(), AllocError>
     ensures { OnOk result (map noted findings.new.items ≡ map noted findings.old.items
-        ++ inside_findings section.now (spot_by size.now) (item_by item.now)) }
+        ++ inside_findings section.now (spot_by number.now) size (item_by item.now)) }
 {
-    let long = number_in(size, item.bytes);
-    if is_inside(number_of(&item.field), long, item.bytes.len()) {
+    let many = number_in(number, item.bytes);
+    if are_inside(number_of(&item.field), size, many, item.bytes.len()) {
         return Ok(());
     }
     let said = Said {
         section,
-        number: long,
+        number: many,
         most: item.bytes.len() as u64,
-        other: size.name,
+        other: number.name,
     };
     add_related(Rule::Inside, &said, &item.field, findings)
 }
@@ -285,6 +335,29 @@ fn check_not_all<'a>(
     Ok(())
 }
 
+// Adds that a number doesn't have all bits of a mask.
+fn check_all<'a>(
+    section: &'static str,
+    mask: u64,
+    item: &Item<'a>,
+    findings: &mut Vec<Finding<'a>>,
+) -> Result<(), AllocError>
+    ensures { OnOk result (map noted findings.new.items ≡ map noted findings.old.items
+        ++ all_findings section.now mask (item_by item.now)) }
+{
+    let number = number_of(&item.field);
+    if number & mask == mask {
+        return Ok(());
+    }
+    let said = Said {
+        section,
+        number: number | mask,
+        most: number | mask,
+        other: "",
+    };
+    add_related(Rule::Range, &said, &item.field, findings)
+}
+
 // Adds what a part breaks of a demand on its numbers.
 fn check_numbers<'a>(
     demand: &Demand,
@@ -298,7 +371,8 @@ fn check_numbers<'a>(
     match *demand {
         Demand::AtMost(other) => check_order(section, &other, item, findings),
         Demand::Addresses(size) => check_addresses(section, &size, item, findings),
-        Demand::Inside(size) => check_inside(section, &size, item, findings),
+        Demand::Blocks(last, size) => check_blocks(section, &last, size, item, findings),
+        Demand::Inside(number, size) => check_inside(section, &number, size, item, findings),
         Demand::Counts(start, size) => check_count(section, start, size, item, findings),
         Demand::Agrees(other) => check_pair(section, &other, item, findings),
         Demand::Needed(other) => check_needed(section, &other, item, findings),
@@ -306,7 +380,10 @@ fn check_numbers<'a>(
         Demand::Between(from, to) => check_between(section, from, to, item, findings),
         Demand::Multiple(unit) => check_multiple(section, unit, item, findings),
         Demand::NotAll(mask) => check_not_all(section, mask, item, findings),
+        Demand::All(mask) => check_all(section, mask, item, findings),
         Demand::Differs
+        | Demand::DiffersWith(_)
+        | Demand::DiffersIn(_)
         | Demand::Apart(_, _)
         | Demand::Disjoint(_)
         | Demand::Points(_)

@@ -140,6 +140,7 @@ pub fn targets_of(
 {
     let mut numbers = Vec::new(alloc);
     match *demand {
+        Demand::DiffersIn(kind) => push_starts(alloc, walk, table, kind, &mut numbers)?,
         Demand::Points(types) => push_all_starts(alloc, walk, table, types, &mut numbers)?,
         Demand::Refers(kind, spot) => {
             push_referred(alloc, walk, table, kind, &spot, &mut numbers)?

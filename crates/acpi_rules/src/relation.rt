@@ -17,6 +17,7 @@ use crate::matrix::check_matrices;
 use crate::order::check_each;
 use crate::reference::{check_all_present, check_references, targets_of};
 use crate::rules::signature_of;
+use crate::sibling::check_siblings;
 use acpi_base::walk::Walk;
 use std::alloc::{AllocError, Global};
 
@@ -35,9 +36,9 @@ fn check_demand<'a>(
         ++ demand_findings (demand_by demand.now) at section.now numbers.now (map item_by items.now)) }
 {
     match *demand {
-        Demand::Differs | Demand::Apart(_, _) | Demand::Disjoint(_) => {
-            check_apart(demand, section, items, findings)
-        }
+        Demand::Differs | Demand::DiffersWith(_) | Demand::Apart(_, _) | Demand::Disjoint(_) =>
+            check_apart(demand, section, items, findings),
+        Demand::DiffersIn(_) => check_siblings(section, numbers, items, findings),
         Demand::Points(_) | Demand::Refers(_, _) => {
             check_references(demand, section, numbers, items, findings)
         }
@@ -46,14 +47,16 @@ fn check_demand<'a>(
         Demand::Includes(_, what) => check_all_present(section, what, numbers, items, findings),
         Demand::AtMost(_)
         | Demand::Addresses(_)
-        | Demand::Inside(_)
+        | Demand::Blocks(_, _)
+        | Demand::Inside(_, _)
         | Demand::Counts(_, _)
         | Demand::Agrees(_)
         | Demand::Needed(_)
         | Demand::Needs(_)
         | Demand::Between(_, _)
         | Demand::Multiple(_)
-        | Demand::NotAll(_) => check_each(demand, section, items, findings),
+        | Demand::NotAll(_)
+        | Demand::All(_) => check_each(demand, section, items, findings),
     }
 }
 

@@ -10,8 +10,9 @@ ghost use Rattle.acpi_rules.specs.Standard.{bounded, referred, placed, included,
 
 use crate::allowed::Allowed;
 use crate::demand::Demand::{
-    Addresses, Agrees, Apart, AtMost, Between, Counts, Differs, Disjoint, Distances, Ends,
-    Includes, Inside, Multiple, Needed, Needs, NotAll, Points, Refers,
+    Addresses, Agrees, All, Apart, AtMost, Between, Blocks, Counts, Differs, DiffersIn,
+    DiffersWith, Disjoint, Distances, Ends, Includes, Inside, Multiple, Needed, Needs, NotAll,
+    Points, Refers,
 };
 use crate::demand::Of::{Each, Entries, Kind, Whole};
 use crate::demand::When::{Always, Is, Not};
@@ -250,7 +251,9 @@ const NUMBERED: [Relation; 26] = [
 
 // Numbers and addresses that no two structures of another table have.
 #[rattlefmt::skip]
-const DIFFERENT: [Relation; 20] = [
+const DIFFERENT: [Relation; 22] = [
+    rule!("SRAT", Kind(0), Is(DWord(4), 1, 1), spot!(3, 1, "APIC ID"), DiffersWith(spot!(8, 1, "Local SAPIC EID")),
+        "ACPI 6.5, 5.2.16.1"),
     rule!("SRAT", Kind(2), Is(DWord(12), 1, 1), spot!(8, 4, "X2APIC ID"), Differs, "ACPI 6.5, 5.2.16.3"),
     rule!("SRAT", Kind(3), Is(DWord(10), 1, 1), spot!(6, 4, "ACPI Processor UID"), Differs, "ACPI 6.5, 5.2.16.4"),
     rule!("SRAT", Kind(4), Always, spot!(8, 4, "ITS ID"), Differs, "ACPI 6.5, 5.2.16.5"),
@@ -258,6 +261,9 @@ const DIFFERENT: [Relation; 20] = [
     rule!("PPTT", Kind(0), Is(DWord(4), 10, 10), spot!(12, 4, "ACPI Processor ID"), Differs, "ACPI 6.5, 5.2.30.1"),
     rule!("PPTT", Kind(1), Is(DWord(4), 128, 128), spot!(24, 4, "Cache ID"), Differs, "ACPI 6.5, 5.2.30.2"),
     rule!("HEST", Each, Always, spot!(2, 2, "Source Id"), Differs, "ACPI 6.5, 18.3.2"),
+    // Frames of a block of timers.
+    rule!("GTDT", Entries(0, DWord(16), 20, FieldCount(DWord(12)), 40), Always, spot!(0, 1, "GT Frame Number"), DiffersIn(0),
+        "ACPI 6.5, 5.2.25.1"),
     rule!("NFIT", Kind(0), Always, spot!(4, 2, "SPA Range Structure Index"), Differs, "ACPI 6.5, 5.2.26.2"),
     rule!("NFIT", Kind(2), Always, spot!(4, 2, "Interleave Structure Index"), Differs, "ACPI 6.5, 5.2.26.4"),
     rule!("NFIT", Kind(4), Always, spot!(4, 2, "NVDIMM Control Region Structure Index"), Differs, "ACPI 6.5, 5.2.26.6"),
@@ -276,7 +282,7 @@ const DIFFERENT: [Relation; 20] = [
 
 // Ranges of a table that have nothing in common, or that end where they may.
 #[rattlefmt::skip]
-const ORDERED: [Relation; 25] = [
+const ORDERED: [Relation; 26] = [
     // Buses of a segment.
     rule!("MCFG", Each, Always, spot!(10, 1, "Start Bus Number"),
         Apart(spot!(8, 2, "PCI Segment Group Number"), spot!(11, 1, "End Bus Number")), "PCI Firmware 3.3, 4.1.2"),
@@ -322,11 +328,14 @@ const ORDERED: [Relation; 25] = [
         "AMD 48882, 5.2"),
     rule!("TPM2", Whole, Always, spot!(68, 8, "Log Area Start Address"), Addresses(spot!(64, 4, "Log Area Minimum Length")),
         "TCG ACPI Specification 1.4, 8"),
+    // Buses of 1 MiB from bus 0 on, which begins at the base address also if the first bus is another one.
+    rule!("MCFG", Each, Always, spot!(0, 8, "Base Address"), Blocks(spot!(11, 1, "End Bus Number"), 0x10_0000),
+        "PCI Firmware 3.3, 4.1.2"),
 ];
 
 // Structures that have as many entries as they say, and the bytes of which they have the offsets.
 #[rattlefmt::skip]
-const COUNTED: [Relation; 26] = [
+const COUNTED: [Relation; 28] = [
     rule!("PPTT", Kind(0), Always, spot!(16, 4, "Number of private resources"), Counts(20, 4), "ACPI 6.5, 5.2.30.1"),
     rule!("HMAT", Kind(1), Always, spot!(12, 4, "Number of Initiator Proximity Domains"), Counts(32, 4), "ACPI 6.5, 5.2.28.4"),
     rule!("HMAT", Kind(1), Always, spot!(16, 4, "Number of Target Proximity Domains"), Counts(32, 4), "ACPI 6.5, 5.2.28.4"),
@@ -346,19 +355,24 @@ const COUNTED: [Relation; 26] = [
     // A node has 32 bytes at least.
     rule!("MPST", Whole, Always, spot!(40, 2, "Memory Power Node Count"), Counts(44, 32), "ACPI 6.5, 5.2.22"),
     // Bytes at an offset.
-    rule!("SDEV", Kind(0), Always, spot!(4, 2, "Device Identifier Offset"), Inside(spot!(6, 2, "Device Identifier Length")),
+    rule!("SDEV", Kind(0), Always, spot!(4, 2, "Device Identifier Offset"), Inside(spot!(6, 2, "Device Identifier Length"), 1),
         "ACPI 6.5, 5.2.27"),
     rule!("SDEV", Kind(0), Always, spot!(8, 2, "Vendor Specific Data Offset"),
-        Inside(spot!(10, 2, "Vendor Specific Data Length")), "ACPI 6.5, 5.2.27"),
+        Inside(spot!(10, 2, "Vendor Specific Data Length"), 1), "ACPI 6.5, 5.2.27"),
     rule!("SDEV", Kind(0), Is(Byte(1), 2, 2), spot!(12, 2, "Secure Access Components Offset"),
-        Inside(spot!(14, 2, "Secure Access Components Length")), "ACPI 6.5, 5.2.27"),
-    rule!("SDEV", Kind(1), Always, spot!(8, 2, "PCI Path Offset"), Inside(spot!(10, 2, "PCI Path Length")), "ACPI 6.5, 5.2.27"),
+        Inside(spot!(14, 2, "Secure Access Components Length"), 1), "ACPI 6.5, 5.2.27"),
+    rule!("SDEV", Kind(1), Always, spot!(8, 2, "PCI Path Offset"), Inside(spot!(10, 2, "PCI Path Length"), 1),
+        "ACPI 6.5, 5.2.27"),
     rule!("SDEV", Kind(1), Always, spot!(12, 2, "Vendor Specific Data Offset"),
-        Inside(spot!(14, 2, "Vendor Specific Data Length")), "ACPI 6.5, 5.2.27"),
-    rule!("DBG2", Each, Always, spot!(6, 2, "NamespaceStringOffset"), Inside(spot!(4, 2, "NamespaceStringLength")),
+        Inside(spot!(14, 2, "Vendor Specific Data Length"), 1), "ACPI 6.5, 5.2.27"),
+    rule!("DBG2", Each, Always, spot!(6, 2, "NamespaceStringOffset"), Inside(spot!(4, 2, "NamespaceStringLength"), 1),
         "Microsoft DBG2"),
-    rule!("DBG2", Each, Always, spot!(10, 2, "OemDataOffset"), Inside(spot!(8, 2, "OemDataLength")), "Microsoft DBG2"),
-    rule!("SPCR", Whole, Always, spot!(86, 2, "NamespaceStringOffset"), Inside(spot!(84, 2, "NamespaceStringLength")),
+    rule!("DBG2", Each, Always, spot!(10, 2, "OemDataOffset"), Inside(spot!(8, 2, "OemDataLength"), 1), "Microsoft DBG2"),
+    rule!("DBG2", Each, Always, spot!(18, 2, "BaseAddressRegisterOffset"),
+        Inside(spot!(3, 1, "NumberofGenericAddressRegisters"), 12), "Microsoft DBG2"),
+    rule!("DBG2", Each, Always, spot!(20, 2, "AddressSizeOffset"), Inside(spot!(3, 1, "NumberofGenericAddressRegisters"), 4),
+        "Microsoft DBG2"),
+    rule!("SPCR", Whole, Always, spot!(86, 2, "NamespaceStringOffset"), Inside(spot!(84, 2, "NamespaceStringLength"), 1),
         "Microsoft SPCR"),
     // Distances (5.2.17).
     rule!("SLIT", Whole, Always, spot!(36, 8, "Number of System Localities"),
@@ -409,15 +423,16 @@ const PAIRED: [Relation; 19] = [
         "ACPI 6.5, 5.2.9"),
 ];
 
-// Fields that are multiples of numbers, or that have bits of which one is zero.
+// Fields that are multiples of numbers, or that have bits that are all set, or of which one is zero.
 #[rattlefmt::skip]
-const ALIGNED: [Relation; 17] = [
+const ALIGNED: [Relation; 21] = [
     rule!("FACP", Whole, Always, spot!(36, 4, "FIRMWARE_CTRL"), Multiple(64), "ACPI 6.5, 5.2.10"),
     rule!("FACP", Whole, Always, spot!(132, 8, "X_FIRMWARE_CTRL"), Multiple(64), "ACPI 6.5, 5.2.10"),
     rule!("FACP", Whole, Is(DWord(112), 0x10_0000, 0), spot!(92, 1, "GPE0_BLK_LEN"), Multiple(2), "ACPI 6.5, 5.2.9"),
     rule!("FACP", Whole, Is(DWord(112), 0x10_0000, 0), spot!(93, 1, "GPE1_BLK_LEN"), Multiple(2), "ACPI 6.5, 5.2.9"),
     rule!("DMAR", Kind(0), Always, spot!(8, 8, "Register Base Address"), Multiple(4096), "VT-d 4.1, 8.3"),
     rule!("DMAR", Kind(1), Always, spot!(8, 8, "Reserved Memory Region Base Address"), Multiple(4096), "VT-d 4.1, 8.4"),
+    rule!("DMAR", Kind(1), Always, spot!(16, 8, "Reserved Memory Region Limit Address"), All(4095), "VT-d 4.1, 8.4"),
     rule!("CEDT", Kind(1), Always, spot!(8, 8, "Base HPA"), Multiple(0x1000_0000), "CXL 3.0, 9.17.1"),
     rule!("CEDT", Kind(1), Always, spot!(16, 8, "Window Size"), Multiple(0x1000_0000), "CXL 3.0, 9.17.1"),
     rule!("IORT", Entries(6, DWord(24), 28, FieldCount(DWord(20)), 20), Always, spot!(0, 8, "Physical Range Offset"),
@@ -432,6 +447,11 @@ const ALIGNED: [Relation; 17] = [
     rule!("APIC", Kind(9), Always, spot!(8, 4, "Flags"), NotAll(3), "ACPI 6.5, 5.2.12.12"),
     rule!("APIC", Kind(11), Always, spot!(12, 4, "Flags"), NotAll(9), "ACPI 6.5, 5.2.12.14"),
     rule!("APIC", Kind(24), Always, spot!(4, 4, "Flags"), NotAll(3), "ACPI 6.6, 5.2.12"),
+    // The Cache Level (bits 7:4) isn't above the Total Cache Levels (bits 3:0): it isn't 1 or 3 if these are 0, not 2 or 3 if
+    // they are 0 or 1, and not 3 if they are 2.
+    rule!("HMAT", Kind(2), Is(DWord(24), 15, 0), spot!(24, 4, "Cache Attributes"), NotAll(16), "ACPI 6.5, 5.2.28.5"),
+    rule!("HMAT", Kind(2), Is(DWord(24), 14, 0), spot!(24, 4, "Cache Attributes"), NotAll(32), "ACPI 6.5, 5.2.28.5"),
+    rule!("HMAT", Kind(2), Is(DWord(24), 15, 2), spot!(24, 4, "Cache Attributes"), NotAll(48), "ACPI 6.5, 5.2.28.5"),
 ];
 
 // Ranges of fields at an offset of a table or of a structure. Some depend on other fields.
