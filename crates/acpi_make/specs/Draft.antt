@@ -105,11 +105,15 @@ first_of None other = other
 abbrev pub doubted : Option Fault → Drafted → Drafted
 doubted other d = record d { doubt = first_of d.doubt other }
 
+-- whether a line of a field has any number of bytes; a name over fields has none
+abbrev pub is_any_size : Entry → Bool
+is_any_size one = one.size == 0 && nat_lt 0 one.width
+
 -- a line whose field has another number of bytes
 abbrev pub size_doubt : Option Entry → ℕ → ℕ → ℕ → Option Fault
 size_doubt None size from to = None
 size_doubt (Some one) size from to =
-    if one.size == 0 || size == one.size then None else Some (wide from to one.name one.size size)
+    if is_any_size one || size == one.size then None else Some (wide from to one.name one.size size)
 
 -- a line ended
 abbrev pub closed : Drafted → Drafted

@@ -5,10 +5,11 @@ ghost use Rattle.acpi_base.specs.Bytes.{le};
 ghost use Rattle.acpi_make.specs.Draft.{earliest, doubt_of, form_here, misnamed_here, field_expected, is_doubted};
 ghost use Rattle.acpi_make.specs.Draft.{expected, strange, may_lack, may_come, early_doubt, line_found, named_field, line_doubt};
 ghost use Rattle.acpi_make.specs.Draft.{here, parts_here, inner_here, is_strange, nothing_yet, size_doubt, closed, is_nameless};
+ghost use Rattle.acpi_make.specs.Draft.{is_any_size};
 ghost use Rattle.acpi_make.specs.Draft.{unlike, name_doubt, opened, with_line, with_heading, or_fault, with_number, wanted_for};
 ghost use Rattle.acpi_make.specs.Draft.{is_reference, with_reference, with_value_of, taken, all_taken, drafted};
 ghost use Rattle.acpi_make.specs.Draft.{field_in, fault_in, first_of, wants_in};
-ghost use Rattle.acpi_make.specs.Entry.{find_entry, found_of, parts_entries, inner_entries};
+ghost use Rattle.acpi_make.specs.Entry.{entry_of, find_entry, found_of, parts_entries, inner_entries};
 ghost use Rattle.acpi_make.specs.Fault.{fault_of};
 ghost use Rattle.acpi_make.specs.Fits.{fits};
 ghost use Rattle.acpi_make.specs.Gives.{Gives, Changes, Fails};
@@ -129,12 +130,19 @@ fn is_reference(value: &[u8]) -> bool
     }
 }
 
+// Returns whether a line of a field has any number of bytes. A name over fields has none.
+fn is_any_size(field: &Field) -> bool
+    ensures { result ≡ is_any_size (entry_of field.now) }
+{
+    field.size == 0 && field.width > 0
+}
+
 // Returns the doubt about a line whose field has another number of bytes.
 fn size_doubt(field: Option<Field>, found: usize, from: usize, to: usize) -> Option<Fault>
     ensures { fault_in result ≡ size_doubt (field_in field) found from to }
 {
     match field {
-        Some(field) if field.size != 0 && found != field.size => {
+        Some(field) if !is_any_size(&field) && found != field.size => {
             Some(Fault::wide(from, to, field.name, field.size, found))
         }
         _ => None,
