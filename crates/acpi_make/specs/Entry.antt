@@ -1,5 +1,5 @@
 -- The fields that a form names.
-use Rattle.std.specs.Prelude.{◌≡◌, ℕ, ◌+◌, ◌^◌, ◌==◌, nat_le, nat_lt, ◌&&◌, ◌||◌, Bool, true, false, if◌then◌else◌}
+use Rattle.std.specs.Prelude.{◌≡◌, ℕ, ◌+◌, ◌-◌, ◌^◌, ◌==◌, nat_le, nat_lt, ◌&&◌, ◌||◌, Bool, true, false, if◌then◌else◌}
 use Rattle.std.specs.Prelude.{List, [], ◌∷◌, ◌++◌, length, codes, Option, Some, None}
 use Rattle.std.specs.List.{flat_map, slice_range}
 use Rattle.acpi_base.specs.Fields.{row_name, row_width}
@@ -141,6 +141,30 @@ or_else None other = other
 -- the next field of a line's name, from this one on, and then from the first on
 abbrev pub next_entry : ℕ → List ℕ → List Entry → Option (ℕ × Entry)
 next_entry least line entries = or_else (find_entry 0 least line entries) (find_entry 0 0 line entries)
+
+-- ---- names over fields
+
+-- whether a field is a name over fields
+abbrev pub is_title : Entry → Bool
+is_title one = one.width == 0
+
+-- the field that was found, if it is a name over fields
+abbrev pub only_title : Option (ℕ × Entry) → Option (ℕ × Entry)
+only_title (Some found) = if is_title found.1 then Some found else None
+only_title None = None
+
+-- the name over fields just before the field with this number
+abbrev pub title_over : ℕ → List Entry → Option (ℕ × Entry)
+title_over k entries = if k == 0 then None else only_title (find_entry 0 (k - 1) [] entries)
+
+abbrev pub is_found : Option (ℕ × Entry) → Bool
+is_found (Some found) = true
+is_found None = false
+
+-- the number of the field that was found, or another
+abbrev pub number_or : Option (ℕ × Entry) → ℕ → ℕ
+number_or (Some found) other = found.0
+number_or None other = other
 
 -- ---- fields that come once
 

@@ -9,7 +9,7 @@ ghost use Rattle.acpi_make.specs.Entry.{choice_entries, part_entries, parts_entr
 ghost use Rattle.acpi_make.specs.Entry.{inner_form_entries, inner_list_entries, inner_entries};
 ghost use Rattle.acpi_make.specs.Entry.{entry, open_entry, entry_of, is_line_of, is_of, next_number, find_entry};
 ghost use Rattle.acpi_make.specs.Entry.{next_entry, IsSearch, found_of};
-ghost use Rattle.acpi_make.specs.Entry.{repeats, is_once, find_inside, find_anywhere};
+ghost use Rattle.acpi_make.specs.Entry.{repeats, is_once, find_inside, find_anywhere, is_title, title_over};
 ghost use Rattle.acpi_text.specs.Structure.{all_forms};
 
 use crate::text::{after, are_white};
@@ -341,8 +341,13 @@ fn search_inner(number: usize, least: usize, line: &[u8], inner: &Inner) -> Sear
     }
 }
 
-// Searches the fields of parts, and those of structures within, from this number on.
-fn search_both(least: usize, line: &[u8], parts: &[Part], inner: &Inner) -> Option<(usize, Field)>
+/// Searches the fields of parts, and those of structures within, from this number on.
+pub fn search_both(
+    least: usize,
+    line: &[u8],
+    parts: &[Part],
+    inner: &Inner,
+) -> Option<(usize, Field)>
     ensures { found_of result ≡ find_entry 0 least line.now (parts_entries parts.now ++ inner_entries inner.now) }
 {
     match search_parts(0, least, line, parts) {
@@ -375,6 +380,26 @@ pub fn entry_from(least: usize, parts: &[Part], inner: &Inner) -> Option<(usize,
     ensures { found_of result ≡ find_entry 0 least [] (parts_entries parts.now ++ inner_entries inner.now) }
 {
     search_both(least, b"", parts, inner)
+}
+
+/// Returns whether a field is a name over fields.
+pub fn is_title(field: &Field) -> bool
+    ensures { result ≡ is_title (entry_of field.now) }
+{
+    field.width == 0
+}
+
+/// Returns the name over fields just before the field with this number.
+pub fn title_over(number: usize, parts: &[Part], inner: &Inner) -> Option<(usize, Field)>
+    ensures { found_of result ≡ title_over number (parts_entries parts.now ++ inner_entries inner.now) }
+{
+    if number == 0 {
+        return None;
+    }
+    match entry_from(number - 1, parts, inner) {
+        Some((at, field)) if is_title(&field) => Some((at, field)),
+        _ => None,
+    }
 }
 
 // Returns the first field of a line's name in the structures of a table.
