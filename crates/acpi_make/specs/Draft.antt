@@ -7,7 +7,7 @@ use Rattle.acpi_text.specs.declared.form.Inner.{Inner}
 use Rattle.acpi_text.specs.declared.form.Part.{Part}
 use Rattle.acpi_text.specs.declared.form.StructureForm.{StructureForm}
 use Rattle.acpi_make.specs.Entry.{Entry, entry_of, parts_entries, inner_entries, is_line_of, find_entry, next_entry, next_number}
-use Rattle.acpi_make.specs.Entry.{is_once, is_title, title_over, is_found, number_or}
+use Rattle.acpi_make.specs.Entry.{is_once, is_register, is_title, title_over, is_found, number_or}
 use Rattle.acpi_make.specs.Fault.{Fault, fault_of, fault, next, wide, field_of}
 use Rattle.acpi_make.specs.Fits.{fits}
 use Rattle.acpi_make.specs.Gives.{and_then}
@@ -176,9 +176,9 @@ expected s d from to =
     or_fault (misnamed_here s d)
     (if is_strange s d then strange d.from d.to s.text else field_expected s d from to)
 
--- a field may be left out if its number of bytes can be any, and so may a name over fields
+-- a field may be left out if its number of bytes can be any, and so may a name over fields that isn't a register's
 abbrev pub may_lack : Option (ℕ × Entry) → Bool
-may_lack (Some found) = found.1.size == 0
+may_lack (Some found) = found.1.size == 0 && not (is_register found.1.look)
 may_lack None = true
 
 -- whether a line of the field with this number may come here: it is the next one, or one of a list, which comes again

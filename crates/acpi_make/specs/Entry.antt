@@ -62,9 +62,13 @@ row_entry row = entry (row_name row) (row_width row) (row_look row)
 abbrev pub title_entry : List ℕ → Entry
 title_entry name = entry name 0 looks.bytes
 
+-- that of a register, which can't be left out
+abbrev pub register_entry : List ℕ → Entry
+register_entry name = entry name 0 looks.register
+
 -- the fields of a row: a register is a name over those of its address
 abbrev pub row_entries : Row → List Entry
-row_entries (Register name) = title_entry name.now ∷ register_entries
+row_entries (Register name) = register_entry name.now ∷ register_entries
 row_entries row = row_entry row ∷ []
 
 abbrev pub rows_entries : List Row → List Entry
@@ -147,6 +151,11 @@ next_entry least line entries = or_else (find_entry 0 least line entries) (find_
 -- whether a field is a name over fields
 abbrev pub is_title : Entry → Bool
 is_title one = one.width == 0
+
+-- whether a field is a register's name over the fields of its address
+abbrev pub is_register : Look → Bool
+is_register looks.register = true
+is_register look = false
 
 -- the field that was found, if it is a name over fields
 abbrev pub only_title : Option (ℕ × Entry) → Option (ℕ × Entry)

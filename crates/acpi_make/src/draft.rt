@@ -19,8 +19,8 @@ ghost use Rattle.acpi_make.specs.declared.item.Cell.TheVariants.{Left};
 
 use crate::another::misnamed;
 use crate::entry::{
-    Field, entry_from, is_line_of, is_once, is_title, next_entry, next_number, search_both,
-    title_over,
+    Field, entry_from, is_line_of, is_once, is_register, is_title, next_entry, next_number,
+    search_both, title_over,
 };
 use crate::fault::{Fault, MakeError, Wanted};
 use crate::heading::{is_field, structure_form};
@@ -174,12 +174,12 @@ fn strange(from: usize, to: usize, text: &[u8]) -> Fault
     Fault::new(from, to, wanted)
 }
 
-// Returns whether a field may be left out: its number of bytes can be any, or it is a name over fields.
+// Returns whether a field may be left out: its number of bytes can be any, or it is a name over fields that isn't a register's.
 fn may_lack(field: Option<(usize, Field)>) -> bool
     ensures { result ≡ may_lack (found_of field) }
 {
     match field {
-        Some((_, field)) => field.size == 0,
+        Some((_, field)) => field.size == 0 && !is_register(field.look),
         None => true,
     }
 }
