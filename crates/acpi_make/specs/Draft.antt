@@ -7,7 +7,7 @@ use Rattle.acpi_text.specs.declared.form.Inner.{Inner}
 use Rattle.acpi_text.specs.declared.form.Part.{Part}
 use Rattle.acpi_text.specs.declared.form.StructureForm.{StructureForm}
 use Rattle.acpi_make.specs.Entry.{Entry, entry_of, parts_entries, inner_entries, is_line_of, find_entry, next_entry, next_number}
-use Rattle.acpi_make.specs.Entry.{is_once}
+use Rattle.acpi_make.specs.Entry.{is_once, is_register, is_title, title_over, is_found, number_or}
 use Rattle.acpi_make.specs.Fault.{Fault, fault_of, fault, next, wide, field_of}
 use Rattle.acpi_make.specs.Fits.{fits}
 use Rattle.acpi_make.specs.Gives.{and_then}
@@ -105,11 +105,15 @@ first_of None other = other
 abbrev pub doubted : Option Fault → Drafted → Drafted
 doubted other d = record d { doubt = first_of d.doubt other }
 
+-- whether a line of a field has any number of bytes; a name over fields has none
+abbrev pub is_any_size : Entry → Bool
+is_any_size one = one.size == 0 && not (is_title one)
+
 -- a line whose field has another number of bytes
 abbrev pub size_doubt : Option Entry → ℕ → ℕ → ℕ → Option Fault
 size_doubt None size from to = None
 size_doubt (Some one) size from to =
-    if one.size == 0 || size == one.size then None else Some (wide from to one.name one.size size)
+    if is_any_size one || size == one.size then None else Some (wide from to one.name one.size size)
 
 -- a line ended
 abbrev pub closed : Drafted → Drafted
@@ -172,9 +176,9 @@ expected s d from to =
     or_fault (misnamed_here s d)
     (if is_strange s d then strange d.from d.to s.text else field_expected s d from to)
 
--- a field may be left out if its number of bytes can be any, and so may a name over fields
+-- a field may be left out if its number of bytes can be any, and so may a name over fields that isn't a register's
 abbrev pub may_lack : Option (ℕ × Entry) → Bool
-may_lack (Some found) = found.1.size == 0
+may_lack (Some found) = found.1.size == 0 && not (is_register found.1.look)
 may_lack None = true
 
 -- whether a line of the field with this number may come here: it is the next one, or one of a list, which comes again
@@ -186,6 +190,30 @@ abbrev pub early_doubt : Source → Drafted → ℕ → ℕ → List ℕ → ℕ
 early_doubt s d from to name k =
     if is_doubted d.early || may_come s d name k || d.loose || may_lack (find_entry 0 d.number [] (entries_here s d)) then None
     else Some (expected s d from to)
+
+-- a name over fields that has to stand in a line
+abbrev pub title_wanted : ℕ → ℕ → Option (ℕ × Entry) → Option Fault
+title_wanted from to (Some found) = Some (next from to found.1.name 0)
+title_wanted from to None = None
+
+-- the number of the next field of a name after one, or of this one, if there is none
+abbrev pub later : Source → Drafted → List ℕ → ℕ → ℕ
+later s d name k = number_or (find_entry 0 (next_number k) name (entries_here s d)) k
+
+-- the field of a name that a line is of: one before the last can be one under a name over fields, which comes again
+abbrev pub again : Source → Drafted → List ℕ → ℕ → ℕ
+again s d name k = if nat_lt k d.number && not (is_found (title_over k (entries_here s d))) then later s d name k else k
+
+-- a line of this field, if the form has no other of its name after it, without the name over fields before it
+abbrev pub untitled : Source → Drafted → ℕ → ℕ → List ℕ → ℕ → Option Fault
+untitled s d from to name k =
+    if nat_lt k (later s d name k) then None else title_wanted from to (title_over k (entries_here s d))
+
+-- a line of a field that isn't the next one, and lacks the name over fields before it
+abbrev pub title_doubt : Source → Drafted → ℕ → ℕ → List ℕ → ℕ × Entry → Option Fault
+title_doubt s d from to name found =
+    if is_doubted d.early || d.loose || found.0 == d.number || is_title found.1 then None
+    else untitled s d from to name (again s d name found.0)
 
 -- a line of which the form has no field
 abbrev pub name_doubt : Source → Drafted → ℕ → ℕ → List ℕ → Option Fault
@@ -208,7 +236,8 @@ named_field s d name = if is_nameless name then None else next_entry d.number na
 
 -- what is in doubt about a line of this field
 abbrev pub line_doubt : Source → Drafted → ℕ → ℕ → List ℕ → Option (ℕ × Entry) → Option Fault
-line_doubt s d from to name (Some found) = early_doubt s d from to name found.0
+line_doubt s d from to name (Some found) =
+    first_of (early_doubt s d from to name found.0) (title_doubt s d from to name found)
 line_doubt s d from to name None = name_doubt s d from to name
 
 -- a line begins

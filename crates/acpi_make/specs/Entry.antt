@@ -1,5 +1,5 @@
 -- The fields that a form names.
-use Rattle.std.specs.Prelude.{◌≡◌, ℕ, ◌+◌, ◌^◌, ◌==◌, nat_le, nat_lt, ◌&&◌, ◌||◌, Bool, true, false, if◌then◌else◌}
+use Rattle.std.specs.Prelude.{◌≡◌, ℕ, ◌+◌, ◌-◌, ◌^◌, ◌==◌, nat_le, nat_lt, ◌&&◌, ◌||◌, Bool, true, false, if◌then◌else◌}
 use Rattle.std.specs.Prelude.{List, [], ◌∷◌, ◌++◌, length, codes, Option, Some, None}
 use Rattle.std.specs.List.{flat_map, slice_range}
 use Rattle.acpi_base.specs.Fields.{row_name, row_width}
@@ -62,9 +62,13 @@ row_entry row = entry (row_name row) (row_width row) (row_look row)
 abbrev pub title_entry : List ℕ → Entry
 title_entry name = entry name 0 looks.bytes
 
+-- that of a register, which can't be left out
+abbrev pub register_entry : List ℕ → Entry
+register_entry name = entry name 0 looks.register
+
 -- the fields of a row: a register is a name over those of its address
 abbrev pub row_entries : Row → List Entry
-row_entries (Register name) = title_entry name.now ∷ register_entries
+row_entries (Register name) = register_entry name.now ∷ register_entries
 row_entries row = row_entry row ∷ []
 
 abbrev pub rows_entries : List Row → List Entry
@@ -141,6 +145,35 @@ or_else None other = other
 -- the next field of a line's name, from this one on, and then from the first on
 abbrev pub next_entry : ℕ → List ℕ → List Entry → Option (ℕ × Entry)
 next_entry least line entries = or_else (find_entry 0 least line entries) (find_entry 0 0 line entries)
+
+-- ---- names over fields
+
+-- whether a field is a name over fields
+abbrev pub is_title : Entry → Bool
+is_title one = one.width == 0
+
+-- whether a field is a register's name over the fields of its address
+abbrev pub is_register : Look → Bool
+is_register looks.register = true
+is_register look = false
+
+-- the field that was found, if it is a name over fields
+abbrev pub only_title : Option (ℕ × Entry) → Option (ℕ × Entry)
+only_title (Some found) = if is_title found.1 then Some found else None
+only_title None = None
+
+-- the name over fields just before the field with this number
+abbrev pub title_over : ℕ → List Entry → Option (ℕ × Entry)
+title_over k entries = if k == 0 then None else only_title (find_entry 0 (k - 1) [] entries)
+
+abbrev pub is_found : Option (ℕ × Entry) → Bool
+is_found (Some found) = true
+is_found None = false
+
+-- the number of the field that was found, or another
+abbrev pub number_or : Option (ℕ × Entry) → ℕ → ℕ
+number_or (Some found) other = found.0
+number_or None other = other
 
 -- ---- fields that come once
 

@@ -5,10 +5,11 @@ ghost use Rattle.acpi_base.specs.Bytes.{le};
 ghost use Rattle.acpi_make.specs.Draft.{earliest, doubt_of, form_here, misnamed_here, field_expected, is_doubted};
 ghost use Rattle.acpi_make.specs.Draft.{expected, strange, may_lack, may_come, early_doubt, line_found, named_field, line_doubt};
 ghost use Rattle.acpi_make.specs.Draft.{here, parts_here, inner_here, is_strange, nothing_yet, size_doubt, closed, is_nameless};
+ghost use Rattle.acpi_make.specs.Draft.{is_any_size, entries_here, later, again, untitled, title_doubt};
 ghost use Rattle.acpi_make.specs.Draft.{unlike, name_doubt, opened, with_line, with_heading, or_fault, with_number, wanted_for};
 ghost use Rattle.acpi_make.specs.Draft.{is_reference, with_reference, with_value_of, taken, all_taken, drafted};
 ghost use Rattle.acpi_make.specs.Draft.{field_in, fault_in, first_of, wants_in};
-ghost use Rattle.acpi_make.specs.Entry.{find_entry, found_of, parts_entries, inner_entries};
+ghost use Rattle.acpi_make.specs.Entry.{entry_of, find_entry, found_of, title_over, parts_entries, inner_entries};
 ghost use Rattle.acpi_make.specs.Fault.{fault_of};
 ghost use Rattle.acpi_make.specs.Fits.{fits};
 ghost use Rattle.acpi_make.specs.Gives.{Gives, Changes, Fails};
@@ -17,7 +18,10 @@ ghost use Rattle.acpi_make.specs.Source.{source_of};
 ghost use Rattle.acpi_make.specs.declared.item.Cell.TheVariants.{Left};
 
 use crate::another::misnamed;
-use crate::entry::{Field, entry_from, is_line_of, is_once, next_entry, next_number};
+use crate::entry::{
+    Field, entry_from, is_line_of, is_once, is_register, is_title, next_entry, next_number,
+    search_both, title_over,
+};
 use crate::fault::{Fault, MakeError, Wanted};
 use crate::heading::{is_field, structure_form};
 use crate::item::{Cell, Item};
@@ -129,12 +133,19 @@ fn is_reference(value: &[u8]) -> bool
     }
 }
 
+// Returns whether a line of a field has any number of bytes. A name over fields has none.
+fn is_any_size(field: &Field) -> bool
+    ensures { result ≡ is_any_size (entry_of field.now) }
+{
+    field.size == 0 && !is_title(field)
+}
+
 // Returns the doubt about a line whose field has another number of bytes.
 fn size_doubt(field: Option<Field>, found: usize, from: usize, to: usize) -> Option<Fault>
     ensures { fault_in result ≡ size_doubt (field_in field) found from to }
 {
     match field {
-        Some(field) if field.size != 0 && found != field.size => {
+        Some(field) if !is_any_size(&field) && found != field.size => {
             Some(Fault::wide(from, to, field.name, field.size, found))
         }
         _ => None,
@@ -163,12 +174,12 @@ fn strange(from: usize, to: usize, text: &[u8]) -> Fault
     Fault::new(from, to, wanted)
 }
 
-// Returns whether a field may be left out: its number of bytes can be any, or it is a name over fields.
+// Returns whether a field may be left out: its number of bytes can be any, or it is a name over fields that isn't a register's.
 fn may_lack(field: Option<(usize, Field)>) -> bool
     ensures { result ≡ may_lack (found_of field) }
 {
     match field {
-        Some((_, field)) => field.size == 0,
+        Some((_, field)) => field.size == 0 && !is_register(field.look),
         None => true,
     }
 }
@@ -369,6 +380,79 @@ impl Draft {
         Some(self.expected(source, from, to))
     }
 
+    // Returns the number of the next field of a name after one, or of this one, if there is none.
+    fn later(&self, source: &Source, name: &[u8], number: usize) -> usize
+        ensures { result ≡ later (source_of source.now) (drafted self.now) name.now number }
+    {
+        let (parts, inner) = self.parts_here(source);
+        match search_both(next_number(number), name, parts, inner) {
+            Some((later, _)) => later,
+            None => number,
+        }
+    }
+
+    // Returns the name over fields just before the field with this number.
+    fn title_here(&self, source: &Source, number: usize) -> Option<(usize, Field)>
+        ensures { found_of result ≡ title_over number (entries_here (source_of source.now) (drafted self.now)) }
+    {
+        let (parts, inner) = self.parts_here(source);
+        title_over(number, parts, inner)
+    }
+
+    // Returns the number of the field of a name that a line is of: one before the last can be one under a name over fields, which
+    // comes again.
+    fn again(&self, source: &Source, name: &[u8], number: usize) -> usize
+        ensures { result ≡ again (source_of source.now) (drafted self.now) name.now number }
+    {
+        if number >= self.number {
+            return number;
+        }
+        match self.title_here(source, number) {
+            Some(_) => number,
+            None => self.later(source, name, number),
+        }
+    }
+
+    // Returns the doubt about a line of this field, if the form has no other of its name after it, without the name over fields
+    // before it.
+    fn untitled(
+        &self,
+        source: &Source,
+        from: usize,
+        to: usize,
+        name: &[u8],
+        number: usize,
+    ) -> Option<Fault>
+        ensures { fault_in result ≡ untitled (source_of source.now) (drafted self.now) from to name.now number }
+    {
+        if self.later(source, name, number) > number {
+            return None;
+        }
+        match self.title_here(source, number) {
+            Some((_, title)) => Some(Fault::next(from, to, title.name, 0)),
+            None => None,
+        }
+    }
+
+    // Returns the doubt about a line of a field that isn't the next one, and lacks the name over fields before it.
+    fn title_doubt(
+        &self,
+        source: &Source,
+        from: usize,
+        to: usize,
+        name: &[u8],
+        found: (usize, Field),
+    ) -> Option<Fault>
+        ensures { fault_in result
+            ≡ title_doubt (source_of source.now) (drafted self.now) from to name.now (found.0, entry_of found.1) }
+    {
+        let (number, field) = found;
+        if is_doubted(self.early) || self.loose || number == self.number || is_title(&field) {
+            return None;
+        }
+        self.untitled(source, from, to, name, self.again(source, name, number))
+    }
+
     /// Returns what is in doubt at the end of the text.
     pub fn doubt(&self) -> Option<Fault>
         ensures { fault_in result ≡ doubt_of (drafted self.now) }
@@ -422,7 +506,10 @@ impl Draft {
         ensures { fault_in result ≡ line_doubt (source_of source.now) (drafted self.now) from to name.now (found_of found) }
     {
         match found {
-            Some((number, _)) => self.early_doubt(source, from, to, name, number),
+            Some((number, field)) => first_of(
+                self.early_doubt(source, from, to, name, number),
+                self.title_doubt(source, from, to, name, (number, field)),
+            ),
             None => self.name_doubt(source, from, to, name),
         }
     }

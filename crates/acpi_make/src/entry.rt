@@ -4,12 +4,12 @@ ghost use Rattle.std.specs.Prelude.{◌≡◌, [], ◌∷◌, ◌++◌};
 ghost use Rattle.std.specs.List.{flat_map};
 ghost use Rattle.acpi_base.specs.Look as looks;
 ghost use Rattle.acpi_base.specs.Look.{look_of};
-ghost use Rattle.acpi_make.specs.Entry.{row_entry, register_entries, title_entry, row_entries, rows_entries, titled_entries};
+ghost use Rattle.acpi_make.specs.Entry.{row_entry, register_entry, register_entries, title_entry, row_entries, rows_entries, titled_entries};
 ghost use Rattle.acpi_make.specs.Entry.{choice_entries, part_entries, parts_entries};
 ghost use Rattle.acpi_make.specs.Entry.{inner_form_entries, inner_list_entries, inner_entries};
 ghost use Rattle.acpi_make.specs.Entry.{entry, open_entry, entry_of, is_line_of, is_of, next_number, find_entry};
 ghost use Rattle.acpi_make.specs.Entry.{next_entry, IsSearch, found_of};
-ghost use Rattle.acpi_make.specs.Entry.{repeats, is_once, find_inside, find_anywhere};
+ghost use Rattle.acpi_make.specs.Entry.{repeats, is_once, find_inside, find_anywhere, is_register, is_title, title_over};
 ghost use Rattle.acpi_text.specs.Structure.{all_forms};
 
 use crate::text::{after, are_white};
@@ -126,11 +126,24 @@ fn search_title(number: usize, least: usize, line: &[u8], name: &'static str) ->
     search_field(number, least, line, field)
 }
 
+// Searches the name over the fields of a register's address.
+fn search_register_name(number: usize, least: usize, line: &[u8], name: &'static str) -> Search
+    ensures { IsSearch result number least line.now (register_entry name.now ∷ []) }
+{
+    let field = Field {
+        name,
+        width: 0,
+        size: 0,
+        look: Look::Register,
+    };
+    search_field(number, least, line, field)
+}
+
 // Searches a register: its name, and the fields of its address.
 fn search_register(number: usize, least: usize, line: &[u8], name: &'static str) -> Search
-    ensures { IsSearch result number least line.now (title_entry name.now ∷ register_entries) }
+    ensures { IsSearch result number least line.now (register_entry name.now ∷ register_entries) }
 {
-    match search_title(number, least, line, name) {
+    match search_register_name(number, least, line, name) {
         Search::Found(at, field) => Search::Found(at, field),
         Search::Missing(next) => search_address(next, least, line),
     }
@@ -341,8 +354,13 @@ fn search_inner(number: usize, least: usize, line: &[u8], inner: &Inner) -> Sear
     }
 }
 
-// Searches the fields of parts, and those of structures within, from this number on.
-fn search_both(least: usize, line: &[u8], parts: &[Part], inner: &Inner) -> Option<(usize, Field)>
+/// Searches the fields of parts, and those of structures within, from this number on.
+pub fn search_both(
+    least: usize,
+    line: &[u8],
+    parts: &[Part],
+    inner: &Inner,
+) -> Option<(usize, Field)>
     ensures { found_of result ≡ find_entry 0 least line.now (parts_entries parts.now ++ inner_entries inner.now) }
 {
     match search_parts(0, least, line, parts) {
@@ -375,6 +393,36 @@ pub fn entry_from(least: usize, parts: &[Part], inner: &Inner) -> Option<(usize,
     ensures { found_of result ≡ find_entry 0 least [] (parts_entries parts.now ++ inner_entries inner.now) }
 {
     search_both(least, b"", parts, inner)
+}
+
+/// Returns whether a field is a register's name over the fields of its address, if it is a name over fields.
+pub fn is_register(look: Look) -> bool
+    ensures { result ≡ is_register (look_of look) }
+{
+    match look {
+        Look::Register => true,
+        _ => false,
+    }
+}
+
+/// Returns whether a field is a name over fields.
+pub fn is_title(field: &Field) -> bool
+    ensures { result ≡ is_title (entry_of field.now) }
+{
+    field.width == 0
+}
+
+/// Returns the name over fields just before the field with this number.
+pub fn title_over(number: usize, parts: &[Part], inner: &Inner) -> Option<(usize, Field)>
+    ensures { found_of result ≡ title_over number (parts_entries parts.now ++ inner_entries inner.now) }
+{
+    if number == 0 {
+        return None;
+    }
+    match entry_from(number - 1, parts, inner) {
+        Some((at, field)) if is_title(&field) => Some((at, field)),
+        _ => None,
+    }
 }
 
 // Returns the first field of a line's name in the structures of a table.
