@@ -62,7 +62,10 @@ words why.Twice = codes "its scope already has an object of this name"
 words why.Level = codes "the sync level of a mutex is at most 0x0F"
 words why.NoArgument = codes "the method has no such argument"
 words why.Reference = codes "a name, a local object or another reference is expected"
+words why.Parent = codes "no statement makes or declares the object around it"
 words why.Value = codes "it has no value"
+words why.Element = codes "a package has constants, names, buffers and packages"
+words why.Bytes = codes "it has more bytes than its size"
 words why.Else = codes "no If is before it"
 
 abbrev pub place_text : List ℕ → List ℕ

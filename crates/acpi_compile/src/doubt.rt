@@ -3,8 +3,8 @@
 use crate::builder::MAX_LISTS;
 use crate::fault::{AslFault, Why};
 use crate::node::{Node, list_of};
-use crate::number::decimal;
-use crate::stated::{has_entries, name_made};
+use crate::number::{decimal, hex};
+use crate::stated::{has_entries, last, node_made};
 use crate::word::{byte_of, is_name, operator, operators};
 use acpi_asl::place::targets;
 use acpi_base::slice::from_offset;
@@ -18,7 +18,7 @@ const MAX_LEVEL: u8 = 15;
 // What stands around a node.
 #[derive(Clone, Copy)]
 struct Surroundings<'a> {
-    // The path of the scope, without the backslash.
+    // The path of the scope, without the backslash. Its segments have four characters.
     scope: &'a [u8],
     // Whether a While of the same method is around it.
     is_in_loop: bool,
@@ -41,12 +41,24 @@ fn outer(scope: &[u8]) -> &[u8] {
     scope.get(..end).unwrap_or(&[])
 }
 
+// Adds a segment to a path. Its last underscores may be left out (ACPI 6.5, 19.2.2).
+fn push_segment(segment: &[u8], path: &mut Vec<u8>) -> Result<(), AllocError> {
+    if !path.is_empty() {
+        path.push(b'.')?;
+    }
+    path.extend_from_slice(segment)?;
+    'underscores: for _ in segment.len()..4 {
+        path.push(b'_')?;
+    }
+    Ok(())
+}
+
 // The path of a name in a scope (ACPI 6.5, 5.3).
 fn path_of(alloc: Global, scope: &[u8], name: &[u8]) -> Result<Vec<u8>, AllocError> {
-    if name.starts_with(b"\\") {
-        return Vec::from_slice(alloc, from_offset(1, name));
-    }
     let (mut around, mut rest) = (scope, name);
+    if name.starts_with(b"\\") {
+        (around, rest) = (&[], from_offset(1, name));
+    }
     'parents: for c in name {
         if *c != b'^' {
             break;
@@ -55,11 +67,27 @@ fn path_of(alloc: Global, scope: &[u8], name: &[u8]) -> Result<Vec<u8>, AllocErr
         rest = from_offset(1, rest);
     }
     let mut path = Vec::from_slice(alloc, around)?;
-    if !around.is_empty() && !rest.is_empty() {
-        path.push(b'.')?;
+    'segments: for segment in rest.split(|c| *c == b'.') {
+        if !segment.is_empty() {
+            push_segment(segment, &mut path)?;
+        }
     }
-    path.extend_from_slice(rest)?;
     Ok(path)
+}
+
+// Whether a name has more `^` than the scope has segments.
+fn is_above_root(scope: &[u8], name: &[u8]) -> bool {
+    let mut around = scope;
+    'parents: for c in name {
+        if *c != b'^' {
+            break;
+        }
+        if around.is_empty() {
+            return true;
+        }
+        around = outer(around);
+    }
+    false
 }
 
 // ---- what nodes are
@@ -77,10 +105,10 @@ fn is_conditional(word: &[u8]) -> bool {
 }
 
 // The name of the object that a statement makes. An External makes none.
-fn object_made<'a>(node: &Node<'a>) -> Option<&'a [u8]> {
+fn object_made<'a, 'b>(node: &'b Node<'a>) -> Option<&'b Node<'a>> {
     match node.word {
         b"External" => None,
-        _ => name_made(node),
+        _ => node_made(node),
     }
 }
 
@@ -100,6 +128,10 @@ fn argument_of(word: &[u8]) -> Option<usize> {
     }
 }
 
+fn is_local(word: &[u8]) -> bool {
+    matches!(word, [b'L', b'o', b'c', b'a', b'l', b'0'..=b'7'])
+}
+
 // Whether an operand is the name of an object, a local object, or another reference, although it may not be left out.
 fn is_reference(word: &[u8], i: usize) -> bool {
     match word {
@@ -109,12 +141,23 @@ fn is_reference(word: &[u8], i: usize) -> bool {
         | b"Decrement"
         | b"Increment"
         | b"Notify"
+        | b"ObjectType"
         | b"RefOf"
         | b"Release"
         | b"Reset"
         | b"Signal"
+        | b"SizeOf"
+        | b"Unload"
         | b"Wait" => i == 0,
         _ => false,
+    }
+}
+
+// Whether a term may be a reference (SuperName in ACPI 6.5, 19.2.3). A method may return one.
+fn may_refer(word: &[u8]) -> bool {
+    match word {
+        b"Debug" | b"DerefOf" | b"Index" | b"RefOf" => true,
+        _ => is_name(word) || argument_of(word).is_some() || is_local(word),
     }
 }
 
@@ -134,12 +177,45 @@ fn is_valueless(word: &[u8]) -> bool {
             | b"Signal"
             | b"Sleep"
             | b"Stall"
+            | b"Unload"
     )
 }
 
-// Whether a word is a number or a string.
-fn is_constant(word: &[u8]) -> bool {
-    matches!(word, [b'"' | b'0'..=b'9', ..] | b"One" | b"Ones")
+// Whether the arguments of a term that is no operator have values: a call, or a statement with a predicate.
+fn takes_values(word: &[u8]) -> bool {
+    is_name(word) || matches!(word, b"If" | b"While")
+}
+
+// Whether a term can't be an element of a package (PackageElement in ACPI 6.5, 19.2.5).
+fn is_no_element(node: &Node<'_>) -> bool {
+    match node.word {
+        b"Acquire"
+        | b"CondRefOf"
+        | b"CopyObject"
+        | b"Debug"
+        | b"DerefOf"
+        | b"ObjectType"
+        | b"RefOf"
+        | b"SizeOf"
+        | b"Store"
+        | b"Timer"
+        | b"Wait" => true,
+        word => {
+            argument_of(word).is_some()
+                || is_local(word)
+                || is_valueless(word)
+                || is_name(word) && !node.is_alone()
+        }
+    }
+}
+
+// A number without lists.
+fn value_of(node: &Node<'_>) -> Option<u64> {
+    match node.word {
+        b"Zero" => Some(0),
+        b"One" => Some(1),
+        word => Some(hex(word)?.value),
+    }
 }
 
 // ---- what is looked for
@@ -149,7 +225,11 @@ fn is_constant(word: &[u8]) -> bool {
 struct Search {
     alloc: Global,
     operators: Vec<Op>,
-    // The paths of objects.
+    // The paths of the objects of the system, and of those that the text makes or declares, with those around these.
+    known: BTreeMap<Vec<u8>, ()>,
+    // Whether there may be others: the text has External statements for what the block uses, but not for all that it adds to.
+    has_others: bool,
+    // The paths of objects, up to a place.
     objects: BTreeMap<Vec<u8>, ()>,
     doubts: Vec<AslFault>,
 }
@@ -160,23 +240,99 @@ impl Search {
         Ok(())
     }
 
+    // Notes the objects that a system has before a block is loaded (ACPI 6.5, 5.3.1 and 5.7). Compilers let a block make the
+    // scopes `\_GPE`, `\_PR` and `\_SI`.
+    fn system(&mut self) -> Result<(), AllocError> {
+        let names: [&[u8]; 6] = [b"_GL_", b"_OSI", b"_OS_", b"_REV", b"_SB_", b"_TZ_"];
+        'names: for name in &names {
+            self.objects.insert(Vec::from_slice(self.alloc, name)?, ())?;
+            self.known.insert(Vec::from_slice(self.alloc, name)?, ())?;
+        }
+        let scopes: [&[u8]; 3] = [b"_GPE", b"_PR_", b"_SI_"];
+        'scopes: for name in &scopes {
+            self.known.insert(Vec::from_slice(self.alloc, name)?, ())?;
+        }
+        Ok(())
+    }
+
+    // Notes the object that a statement makes or declares. The objects around a declared one are there, too.
+    fn note(&mut self, scope: &[u8], node: &Node<'_>) -> Result<(), AllocError> {
+        let Some(name) = node_made(node) else {
+            return Ok(());
+        };
+        let path = path_of(self.alloc, scope, name.word)?;
+        if matches!(node.word, b"External") {
+            self.has_others = self.has_others || node.is_for_compilers();
+            'characters: for (i, c) in path.iter().enumerate() {
+                if *c == b'.' {
+                    let around = path.get(..i).unwrap_or(&[]);
+                    self.known.insert(Vec::from_slice(self.alloc, around)?, ())?;
+                }
+            }
+        }
+        self.known.insert(path, ())?;
+        Ok(())
+    }
+
+    // The path of a scope. A Scope of one segment may be an object of a scope around (ACPI 6.5, 5.3).
+    fn scope_of(&self, around: &[u8], node: &Node<'_>, name: &[u8]) -> Result<Vec<u8>, AllocError> {
+        let path = path_of(self.alloc, around, name)?;
+        if !matches!(node.word, b"Scope") || last(name) != name || self.known.contains_key(&path) {
+            return Ok(path);
+        }
+        let mut scope = around;
+        'scopes: for _ in around {
+            if scope.is_empty() {
+                break;
+            }
+            scope = outer(scope);
+            let above = path_of(self.alloc, scope, name)?;
+            if self.known.contains_key(&above) {
+                return Ok(above);
+            }
+        }
+        Ok(path)
+    }
+
     // Notes an object that is made in a scope. A scope has one object of a name (ACPI 6.5, 5.3).
-    fn object(&mut self, around: Surroundings<'_>, at: usize, name: &[u8]) -> Result<(), AllocError> {
+    fn object(&mut self, around: Surroundings<'_>, name: &Node<'_>) -> Result<(), AllocError> {
         if around.is_conditional {
             return Ok(());
         }
-        let path = path_of(self.alloc, around.scope, name)?;
+        let path = path_of(self.alloc, around.scope, name.word)?;
         match self.objects.insert(path, ())? {
-            Some(()) => self.doubt(at, Why::Twice),
+            Some(()) => self.doubt(name.at, Why::Twice),
             None => Ok(()),
         }
     }
 
+    // The object around one that is made is there (ACPI 6.5, 5.3). That of a name of one segment is the scope itself.
+    fn check_parent(
+        &mut self,
+        around: Surroundings<'_>,
+        name: &Node<'_>,
+    ) -> Result<(), AllocError> {
+        if last(name.word) == name.word {
+            return Ok(());
+        }
+        let path = path_of(self.alloc, around.scope, name.word)?;
+        let parent = Vec::from_slice(self.alloc, outer(&path))?;
+        let is_there = parent.is_empty() || self.has_others || self.known.contains_key(&parent);
+        if is_above_root(around.scope, name.word) || !is_there {
+            return self.doubt(name.at, Why::Parent);
+        }
+        Ok(())
+    }
+
     // Notes the fields among entries.
-    fn entries(&mut self, around: Surroundings<'_>, entries: &[Node<'_>]) -> Result<(), AllocError> {
+    fn entries(
+        &mut self,
+        around: Surroundings<'_>,
+        entries: &[Node<'_>],
+    ) -> Result<(), AllocError> {
         'entries: for entry in entries {
             if is_name(entry.word) {
-                self.object(around, entry.at, entry.word)?;
+                self.object(around, entry)?;
             }
         }
         Ok(())
@@ -191,7 +347,11 @@ impl Search {
     }
 
     // A method has the argument (ACPI 6.5, 19.6.84).
-    fn check_argument(&mut self, around: Surroundings<'_>, node: &Node<'_>) -> Result<(), AllocError> {
+    fn check_argument(
+        &mut self,
+        around: Surroundings<'_>,
+        node: &Node<'_>,
+    ) -> Result<(), AllocError> {
         match argument_of(node.word) {
             Some(n) if n >= around.arguments => self.doubt(node.at, Why::NoArgument),
             _ => Ok(()),
@@ -208,20 +368,60 @@ impl Search {
         }
     }
 
+    // The bytes of a buffer are no more than its size. Compilers make a larger buffer of such a text (ACPI 6.5, 19.6.10).
+    fn check_size(&mut self, node: &Node<'_>) -> Result<(), AllocError> {
+        match (node.word, list_of(&node.arguments)) {
+            (b"Buffer", [size]) => match value_of(size) {
+                Some(number) if number < list_of(&node.body).len() as u64 => {
+                    self.doubt(size.at, Why::Bytes)
+                }
+                _ => Ok(()),
+            },
+            _ => Ok(()),
+        }
+    }
+
+    // The elements of a package are data or names (ACPI 6.5, 19.6.101).
+    fn check_elements(&mut self, node: &Node<'_>) -> Result<(), AllocError> {
+        if !matches!(node.word, b"Package") {
+            return Ok(());
+        }
+        'elements: for element in list_of(&node.body) {
+            if is_no_element(element) {
+                self.doubt(element.at, Why::Element)?;
+            }
+        }
+        Ok(())
+    }
+
     // An operand has a value, and a target is a reference (ACPI 6.5, 19.2.5).
     fn check_operands(&mut self, node: &Node<'_>) -> Result<(), AllocError> {
         let Some(op) = operator(&self.operators, node.word) else {
-            return Ok(());
+            return self.check_values(node);
         };
         let end = usize::from(op.operands());
         let first_target = end.saturating_sub(targets(op));
         'operands: for (i, operand) in list_of(&node.arguments).iter().enumerate() {
             let is_target = first_target <= i && i < end;
+            let is_left_out = is_target && matches!(operand.word, [] | b"Zero");
             let refers = is_target || is_reference(node.word, i);
-            if refers && is_constant(operand.word) {
-                self.doubt(operand.at, Why::Reference)?;
-            } else if is_valueless(operand.word) {
+            if is_valueless(operand.word) {
                 self.doubt(operand.at, Why::Value)?;
+            } else if refers && !is_left_out && !may_refer(operand.word) {
+                self.doubt(operand.at, Why::Reference)?;
+            }
+        }
+        Ok(())
+    }
+
+    // The same of the arguments of a call, and of a predicate.
+    fn check_values(&mut self, node: &Node<'_>) -> Result<(), AllocError> {
+        if !takes_values(node.word) {
+            return Ok(());
+        }
+        'arguments: for argument in list_of(&node.arguments) {
+            if is_valueless(argument.word) {
+                self.doubt(argument.at, Why::Value)?;
             }
         }
         Ok(())
@@ -240,15 +440,42 @@ impl Search {
         self.check_loop(around, node)?;
         self.check_argument(around, node)?;
         self.check_level(node)?;
+        self.check_size(node)?;
+        self.check_elements(node)?;
         self.check_operands(node)?;
-        match (object_made(node), list_of(&node.arguments)) {
-            (Some(name), [first, ..]) => self.object(around, first.at, name),
-            _ => Ok(()),
-        }
+        let Some(name) = object_made(node) else {
+            return Ok(());
+        };
+        self.check_parent(around, name)?;
+        self.object(around, name)
     }
 }
 
 // ---- through the text
+
+// Notes the objects that statements make or declare, also within them to a depth.
+#[cycle(known)]
+fn note_all(
+    search: &mut Search,
+    depth: usize,
+    scope: &[u8],
+    nodes: &[Node<'_>],
+) -> Result<(), AllocError> {
+    let Some(depth) = depth.checked_sub(1) else {
+        return Ok(());
+    };
+    'nodes: for node in nodes {
+        search.note(scope, node)?;
+        match list_of(&node.arguments) {
+            [name, ..] if is_scope(node.word) => {
+                let inside = search.scope_of(scope, node, name.word)?;
+                note_all(search, depth, &inside, list_of(&node.body))?;
+            }
+            _ => note_all(search, depth, scope, list_of(&node.body))?,
+        }
+    }
+    Ok(())
+}
 
 // Looks at nodes, and within them to a depth.
 #[cycle(doubts)]
@@ -286,7 +513,7 @@ fn look_at(
     let body = list_of(&node.body);
     match (node.word, list_of(&node.arguments)) {
         (word, [name, ..]) if is_scope(word) => {
-            let scope = path_of(search.alloc, around.scope, name.word)?;
+            let scope = search.scope_of(around.scope, node, name.word)?;
             let is_method = matches!(word, b"Method");
             let inside = Surroundings {
                 scope: &scope,
@@ -318,9 +545,13 @@ pub fn doubts(alloc: Global, nodes: &[Node<'_>]) -> Result<Vec<AslFault>, AllocE
     let mut search = Search {
         alloc,
         operators: operators(alloc)?,
+        known: BTreeMap::new(alloc),
+        has_others: false,
         objects: BTreeMap::new(alloc),
         doubts: Vec::new(alloc),
     };
+    search.system()?;
+    note_all(&mut search, MAX_LISTS, &[], nodes)?;
     let around = Surroundings {
         scope: &[],
         is_in_loop: false,

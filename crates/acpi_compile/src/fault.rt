@@ -96,10 +96,16 @@ pub enum Why {
     Level,
     /// The method hasn't this argument.
     NoArgument,
-    /// A number or a string stands in place of a name, a local object or another reference.
+    /// The object around one that is made isn't there.
+    Parent,
+    /// A number, a string or a value stands in place of a name, a local object or another reference.
     Reference,
-    /// An operand has no value.
+    /// An operand or a predicate has no value.
     Value,
+    /// An element of a package is neither data nor a name.
+    Element,
+    /// A buffer has more bytes than its size. Compilers don't refuse it, but make a larger buffer.
+    Bytes,
     /// An Else follows no If.
     Else,
 }
@@ -216,7 +222,10 @@ impl Why {
             Why::Reference => {
                 text.push_str("a name, a local object or another reference is expected")
             }
+            Why::Parent => text.push_str("no statement makes or declares the object around it"),
             Why::Value => text.push_str("it has no value"),
+            Why::Element => text.push_str("a package has constants, names, buffers and packages"),
+            Why::Bytes => text.push_str("it has more bytes than its size"),
             Why::Else => text.push_str("no If is before it"),
         }
     }

@@ -155,12 +155,20 @@ fn used<'a, 'b>(node: &'b Node<'a>) -> &'b [Node<'a>] {
     }
 }
 
+/// The name of the object that a node makes, where it stands.
+pub fn node_made<'a, 'b>(node: &'b Node<'a>) -> Option<&'b Node<'a>> {
+    match (made_at(node.word), list_of(&node.arguments)) {
+        (Made::First, [name, ..]) => Some(name),
+        (Made::Last, [.., name]) => Some(name),
+        _ => None,
+    }
+}
+
 /// The name of the object that a node makes.
 pub fn name_made<'a>(node: &Node<'a>) -> Option<&'a [u8]> {
-    match (made_at(node.word), list_of(&node.arguments)) {
-        (Made::First, [name, ..]) => Some(name.word),
-        (Made::Last, [.., name]) => Some(name.word),
-        _ => None,
+    match node_made(node) {
+        Some(name) => Some(name.word),
+        None => None,
     }
 }
 
