@@ -204,10 +204,12 @@ later s d name k = number_or (find_entry 0 (next_number k) name (entries_here s 
 abbrev pub again : Source → Drafted → List ℕ → ℕ → ℕ
 again s d name k = if nat_lt k d.number && not (is_found (title_over k (entries_here s d))) then later s d name k else k
 
--- a line of this field, if the form has no other of its name after it, without the name over fields before it
+-- A line of this field without the name over fields before it, if the form has no other field of its name after it. One before
+-- the last has to be one that comes again.
 abbrev pub untitled : Source → Drafted → ℕ → ℕ → List ℕ → ℕ → Option Fault
 untitled s d from to name k =
-    if nat_lt k (later s d name k) then None else title_wanted from to (title_over k (entries_here s d))
+    if (nat_lt k d.number && not (may_come s d name k)) || nat_lt k (later s d name k) then None
+    else title_wanted from to (title_over k (entries_here s d))
 
 -- a line of a field that isn't the next one, and lacks the name over fields before it
 abbrev pub title_doubt : Source → Drafted → ℕ → ℕ → List ℕ → ℕ × Entry → Option Fault

@@ -413,8 +413,8 @@ impl Draft {
         }
     }
 
-    // Returns the doubt about a line of this field, if the form has no other of its name after it, without the name over fields
-    // before it.
+    // Returns the doubt about a line of this field without the name over fields before it, if the form has no other field of its
+    // name after it. One before the last has to be one that comes again.
     fn untitled(
         &self,
         source: &Source,
@@ -425,7 +425,8 @@ impl Draft {
     ) -> Option<Fault>
         ensures { fault_in result ≡ untitled (source_of source.now) (drafted self.now) from to name.now number }
     {
-        if self.later(source, name, number) > number {
+        let is_past = number < self.number && !self.may_come(source, name, number);
+        if is_past || self.later(source, name, number) > number {
             return None;
         }
         match self.title_here(source, number) {
