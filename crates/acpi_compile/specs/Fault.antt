@@ -66,6 +66,7 @@ words why.Parent = codes "no statement makes or declares the object around it"
 words why.Value = codes "it has no value"
 words why.Element = codes "a package has constants, names, buffers and packages"
 words why.Bytes = codes "it has more bytes than its size"
+words why.Call = codes "a call has parentheses"
 words why.Else = codes "no If is before it"
 
 abbrev pub place_text : List ℕ → List ℕ

@@ -241,15 +241,15 @@ fn place_in(text: &[u8], counted: &[u8], place: usize) -> usize {
 
 // Where the ASL of a block and a text begin to differ in what counts.
 #[derive(Clone, Copy)]
-struct Difference {
+struct Places {
     shown: usize,
     kept: usize,
 }
 
-fn difference(alloc: Global, shown: &[u8], kept: &[u8]) -> Result<Difference, AllocError> {
+fn difference(alloc: Global, shown: &[u8], kept: &[u8]) -> Result<Places, AllocError> {
     let (one, other) = (alike(alloc, shown)?, alike(alloc, kept)?);
     let place = place_of(&one, &other);
-    Ok(Difference {
+    Ok(Places {
         shown: place_in(shown, &one, place),
         kept: place_in(kept, &other, place),
     })
@@ -402,7 +402,7 @@ pub fn compile(alloc: Global, text: &[u8]) -> Result<Made, AslError>
     check_text(alloc, &kept, node, &called, table.as_slice())?;
     Ok(Made {
         bytes: Vec::from_slice(alloc, table.as_slice())?,
-        doubts: doubts(alloc, body)?,
+        doubts: doubts(alloc, table.as_slice().starts_with(b"DSDT"), body)?,
     })
 }
 

@@ -227,7 +227,9 @@ struct Search {
     operators: Vec<Op>,
     // The paths of the objects of the system, and of those that the text makes or declares, with those around these.
     known: BTreeMap<Vec<u8>, ()>,
-    // Whether there may be others: the text has External statements for what the block uses, but not for all that it adds to.
+    // How many arguments methods take, by their paths. Two methods of one path may take different numbers.
+    counts: BTreeMap<Vec<u8>, Option<usize>>,
+    // Whether there may be others: a block that isn't the DSDT adds to what other blocks make, and needs no External for that.
     has_others: bool,
     // The paths of objects, up to a place.
     objects: BTreeMap<Vec<u8>, ()>,
@@ -261,8 +263,10 @@ impl Search {
             return Ok(());
         };
         let path = path_of(self.alloc, scope, name.word)?;
+        if matches!(node.word, b"Method") {
+            self.count(Vec::from_slice(self.alloc, &path)?, argument_count(node))?;
+        }
         if matches!(node.word, b"External") {
-            self.has_others = self.has_others || node.is_for_compilers();
             'characters: for (i, c) in path.iter().enumerate() {
                 if *c == b'.' {
                     let around = path.get(..i).unwrap_or(&[]);
@@ -272,6 +276,33 @@ impl Search {
         }
         self.known.insert(path, ())?;
         Ok(())
+    }
+
+    // Notes how many arguments a method takes.
+    fn count(&mut self, path: Vec<u8>, count: usize) -> Result<(), AllocError> {
+        let known = match self.counts.get(&path) {
+            Some(other) if *other != Some(count) => None,
+            _ => Some(count),
+        };
+        self.counts.insert(path, known)?;
+        Ok(())
+    }
+
+    // How many arguments the method takes that a call in a scope calls. A name of one segment is looked for in the scopes around,
+    // too (ACPI 6.5, 5.3).
+    fn takes(&self, scope: &[u8], name: &[u8]) -> Result<Option<usize>, AllocError> {
+        let mut around = scope;
+        'scopes: for _ in 0..MAX_LISTS {
+            let path = path_of(self.alloc, around, name)?;
+            if let Some(count) = self.counts.get(&path) {
+                return Ok(*count);
+            }
+            if around.is_empty() || last(name) != name || self.known.contains_key(&path) {
+                break;
+            }
+            around = outer(around);
+        }
+        Ok(None)
     }
 
     // The path of a scope. A Scope of one segment may be an object of a scope around (ACPI 6.5, 5.3).
@@ -358,6 +389,26 @@ impl Search {
         }
     }
 
+    // A call has as many arguments as its method takes (ACPI 6.5, 19.2.3).
+    fn check_call(&mut self, around: Surroundings<'_>, node: &Node<'_>) -> Result<(), AllocError> {
+        if !is_name(node.word) || node.arguments.is_none() {
+            return Ok(());
+        }
+        let count = list_of(&node.arguments).len();
+        match self.takes(around.scope, node.word)? {
+            Some(takes) if takes != count => self.doubt(node.at, Why::Takes(takes, count)),
+            _ => Ok(()),
+        }
+    }
+
+    // A statement that is a name calls it, with parentheses (ACPI 6.5, 19.2.3).
+    fn check_statement(&mut self, node: &Node<'_>) -> Result<(), AllocError> {
+        if is_name(node.word) && node.is_alone() {
+            return self.doubt(node.at, Why::Call);
+        }
+        Ok(())
+    }
+
     fn check_level(&mut self, node: &Node<'_>) -> Result<(), AllocError> {
         match (node.word, list_of(&node.arguments)) {
             (b"Mutex", [_, level]) => match byte_of(level) {
@@ -439,6 +490,7 @@ impl Search {
     fn check(&mut self, around: Surroundings<'_>, node: &Node<'_>) -> Result<(), AllocError> {
         self.check_loop(around, node)?;
         self.check_argument(around, node)?;
+        self.check_call(around, node)?;
         self.check_level(node)?;
         self.check_size(node)?;
         self.check_elements(node)?;
@@ -477,12 +529,13 @@ fn note_all(
     Ok(())
 }
 
-// Looks at nodes, and within them to a depth.
+// Looks at nodes, which are statements or not, and within them to a depth.
 #[cycle(doubts)]
 fn look_at_all(
     search: &mut Search,
     depth: usize,
     around: Surroundings<'_>,
+    are_statements: bool,
     nodes: &[Node<'_>],
 ) -> Result<(), AllocError> {
     let Some(depth) = depth.checked_sub(1) else {
@@ -491,6 +544,9 @@ fn look_at_all(
     let mut before: &[u8] = &[];
     'nodes: for node in nodes {
         search.check_else(before, node)?;
+        if are_statements {
+            search.check_statement(node)?;
+        }
         look_at(search, depth, around, node)?;
         before = node.word;
     }
@@ -509,7 +565,7 @@ fn look_at(
         return Ok(());
     }
     search.check(around, node)?;
-    look_at_all(search, depth, around, list_of(&node.arguments))?;
+    look_at_all(search, depth, around, false, list_of(&node.arguments))?;
     let body = list_of(&node.body);
     match (node.word, list_of(&node.arguments)) {
         (word, [name, ..]) if is_scope(word) => {
@@ -525,7 +581,7 @@ fn look_at(
                     around.arguments
                 },
             };
-            look_at_all(search, depth, inside, body)
+            look_at_all(search, depth, inside, true, body)
         }
         (word, _) if is_conditional(word) => {
             let inside = Surroundings {
@@ -533,20 +589,25 @@ fn look_at(
                 is_conditional: true,
                 ..around
             };
-            look_at_all(search, depth, inside, body)
+            look_at_all(search, depth, inside, true, body)
         }
         _ if has_entries(node) => search.entries(around, body),
-        _ => look_at_all(search, depth, around, body),
+        _ => look_at_all(search, depth, around, false, body),
     }
 }
 
-/// What compilers refuse in the statements of a text.
-pub fn doubts(alloc: Global, nodes: &[Node<'_>]) -> Result<Vec<AslFault>, AllocError> {
+/// What compilers refuse in the statements of a text. The DSDT is the only block that adds to no other.
+pub fn doubts(
+    alloc: Global,
+    is_dsdt: bool,
+    nodes: &[Node<'_>],
+) -> Result<Vec<AslFault>, AllocError> {
     let mut search = Search {
         alloc,
         operators: operators(alloc)?,
         known: BTreeMap::new(alloc),
-        has_others: false,
+        counts: BTreeMap::new(alloc),
+        has_others: !is_dsdt,
         objects: BTreeMap::new(alloc),
         doubts: Vec::new(alloc),
     };
@@ -558,6 +619,6 @@ pub fn doubts(alloc: Global, nodes: &[Node<'_>]) -> Result<Vec<AslFault>, AllocE
         is_conditional: false,
         arguments: 0,
     };
-    look_at_all(&mut search, MAX_LISTS, around, nodes)?;
+    look_at_all(&mut search, MAX_LISTS, around, true, nodes)?;
     Ok(search.doubts)
 }

@@ -106,6 +106,8 @@ pub enum Why {
     Element,
     /// A buffer has more bytes than its size. Compilers don't refuse it, but make a larger buffer.
     Bytes,
+    /// A statement is a name, whose call has no parentheses.
+    Call,
     /// An Else follows no If.
     Else,
 }
@@ -226,6 +228,7 @@ impl Why {
             Why::Value => text.push_str("it has no value"),
             Why::Element => text.push_str("a package has constants, names, buffers and packages"),
             Why::Bytes => text.push_str("it has more bytes than its size"),
+            Why::Call => text.push_str("a call has parentheses"),
             Why::Else => text.push_str("no If is before it"),
         }
     }
