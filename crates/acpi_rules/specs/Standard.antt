@@ -397,7 +397,8 @@ bounded =
     -- The length of a header: with or without that of all tables in EINJ and ERST, as Linux takes both.
     ∷ rule "EINJ" Whole Always (spot 36 4 "Injection Header Size") (between 12 48) "ACPI 6.5, 18.6.1"
     ∷ rule "ERST" Whole Always (spot 36 4 "Serialization Header Size") (between 12 48) "ACPI 6.5, 18.5.1"
-    ∷ rule "WDAT" Whole Always (spot 36 4 "Watchdog Header Length") (between 32 32) "Microsoft WDAT"
+    ∷ rule "WDAT" Whole Always (spot 36 4 "Watchdog Header Length") (between 32 32)
+    "Hardware Watchdog Timers Design Specification"
     ∷ rule "HEST" (Kind 9) Always (spot 33 1 "Length") (between 28 28) "ACPI 6.5, 18.3.2.9"
     ∷ rule "HEST" (Kind 10) Always (spot 33 1 "Length") (between 28 28) "ACPI 6.5, 18.3.2.9"
     ∷ []
