@@ -3,7 +3,7 @@
 use crate::argument::{below, byte_at, number_at, string_at};
 use crate::constant::bytes_of;
 use crate::fault::{AslError, Why, fault};
-use crate::node::{Node, list_of, word_node};
+use crate::node::{Node, list_of};
 use crate::word::{byte_of, number_in};
 use acpi_asl::content::value_of;
 use acpi_asl::descriptor::{Bits, Braces, Check, Offset, Part, words};
@@ -298,6 +298,24 @@ fn check_count(count: usize, node: &Node<'_>) -> Result<(), AslError> {
     }
 }
 
+// Refuses a macro without these arguments after its last one, unless they may be left out.
+fn check_others(others: &[Part], has_source: bool, node: &Node<'_>) -> Result<(), AslError> {
+    'others: for part in others {
+        match *part {
+            Part::Index(_) if has_source => return Err(fault(node.at, Why::Index)),
+            part if may_lack(part) => {}
+            _ => {
+                let count = list_of(&node.arguments).len();
+                return Err(fault(
+                    node.at,
+                    Why::Takes(count.saturating_add(others.len()), count),
+                ));
+            }
+        }
+    }
+    Ok(())
+}
+
 // Adds the arguments of a macro.
 fn push_parts(
     alloc: Global,
@@ -307,15 +325,9 @@ fn push_parts(
 ) -> Result<(), AslError> {
     let arguments = list_of(&node.arguments);
     check_count(parts.len(), node)?;
-    let absent = word_node(node.at, &[], &[]);
     // The index stands before the source in all macros but ClockInput.
     let (mut has_index, mut has_source) = (true, false);
-    'parts: for (i, part) in parts.iter().enumerate() {
-        let argument = match arguments.get(i) {
-            Some(argument) => argument,
-            None if may_lack(*part) => &absent,
-            None => return Err(fault(node.at, Why::Takes(parts.len(), arguments.len()))),
-        };
+    'parts: for (part, argument) in parts.iter().zip(arguments) {
         match part {
             Part::Index(_) if has_source && argument.is_absent() => {
                 return Err(fault(argument.at, Why::Index));
@@ -329,7 +341,7 @@ fn push_parts(
         }
         push_part(alloc, *part, argument, item)?;
     }
-    Ok(())
+    check_others(from_offset(arguments.len(), parts), has_source, node)
 }
 
 // ---- descriptors
