@@ -385,8 +385,13 @@ bounded =
     ∷ rule "TCPA" Whole (Is (Word 36) 65535 0) (spot 4 4 "Length") (between 50 50) "TCG ACPI Specification 1.4"
     ∷ rule "TCPA" Whole (Is (Word 36) 65535 1) (spot 4 4 "Length") (between 100 100) "TCG ACPI Specification 1.4"
     ∷ rule "RSD " Whole (Is (DWord 20) 0xffffffff 36) (spot 15 1 "Revision") (between 2 255) "ACPI 6.5, 5.2.5.3"
+    ∷ []
+
+-- Lengths that other fields determine, or that the standard states.
+unfoldable pub sized : List Relation
+sized =
     -- A window has as many targets as ways.
-    ∷ rule "CEDT" (Kind 1) (Is (Byte 24) 255 0) (spot 2 2 "Record Length") (between 40 40) "CXL 3.0, 9.17.1"
+    rule "CEDT" (Kind 1) (Is (Byte 24) 255 0) (spot 2 2 "Record Length") (between 40 40) "CXL 3.0, 9.17.1"
     ∷ rule "CEDT" (Kind 1) (Is (Byte 24) 255 1) (spot 2 2 "Record Length") (between 44 44) "CXL 3.0, 9.17.1"
     ∷ rule "CEDT" (Kind 1) (Is (Byte 24) 255 2) (spot 2 2 "Record Length") (between 52 52) "CXL 3.0, 9.17.1"
     ∷ rule "CEDT" (Kind 1) (Is (Byte 24) 255 3) (spot 2 2 "Record Length") (between 68 68) "CXL 3.0, 9.17.1"
@@ -504,6 +509,7 @@ standard_findings walk bytes =
     ++ relations_findings paired walk bytes
     ++ relations_findings aligned walk bytes
     ++ relations_findings bounded walk bytes
+    ++ relations_findings sized walk bytes
     ++ relations_findings referred walk bytes
     ++ relations_findings placed walk bytes
     ++ relations_findings included walk bytes

@@ -6,7 +6,7 @@ ghost use Rattle.acpi_rules.specs.Finding.{noted};
 ghost use Rattle.acpi_rules.specs.Rules.{fields_findings};
 ghost use Rattle.acpi_rules.specs.Relation.{relations_findings};
 ghost use Rattle.acpi_rules.specs.Standard.{allowed_numbers, ranges, numbered, different, ordered, counted, paired, aligned};
-ghost use Rattle.acpi_rules.specs.Standard.{bounded, referred, placed, included, standard_findings, table_findings};
+ghost use Rattle.acpi_rules.specs.Standard.{bounded, sized, referred, placed, included, standard_findings, table_findings};
 
 use crate::allowed::Allowed;
 use crate::demand::Demand::{
@@ -456,7 +456,7 @@ const ALIGNED: [Relation; 21] = [
 
 // Ranges of fields at an offset of a table or of a structure. Some depend on other fields.
 #[rattlefmt::skip]
-const BOUNDED: [Relation; 40] = [
+const BOUNDED: [Relation; 27] = [
     rule!("FACP", Whole, Is(DWord(112), 1024, 1024), spot!(116, 1, "Address Space ID"), Between(0, 2), "ACPI 6.5, 5.2.9"),
     rule!("FACP", Whole, Is(DWord(112), 1024, 1024), spot!(117, 1, "Register Bit Width"), Between(8, 8), "ACPI 6.5, 5.2.9"),
     rule!("FACP", Whole, Is(DWord(112), 1024, 1024), spot!(118, 1, "Register Bit Offset"), Between(0, 0), "ACPI 6.5, 5.2.9"),
@@ -490,6 +490,11 @@ const BOUNDED: [Relation; 40] = [
     rule!("TCPA", Whole, Is(Word(36), 65535, 1), spot!(4, 4, "Length"), Between(100, 100), "TCG ACPI Specification 1.4"),
     // An RSDP of 36 bytes has the revision 2 or a later one.
     rule!("RSD ", Whole, Is(DWord(20), 0xffff_ffff, 36), spot!(15, 1, "Revision"), Between(2, 255), "ACPI 6.5, 5.2.5.3"),
+];
+
+// Lengths that other fields determine, or that the standard states.
+#[rattlefmt::skip]
+const SIZED: [Relation; 13] = [
     // A window has as many targets as ways.
     rule!("CEDT", Kind(1), Is(Byte(24), 255, 0), spot!(2, 2, "Record Length"), Between(40, 40), "CXL 3.0, 9.17.1"),
     rule!("CEDT", Kind(1), Is(Byte(24), 255, 1), spot!(2, 2, "Record Length"), Between(44, 44), "CXL 3.0, 9.17.1"),
@@ -696,6 +701,19 @@ fn check_bounded<'a>(
     check_relations(alloc, &BOUNDED, walk, bytes, findings)
 }
 
+#[tactic(auto, unfolding(crate::specs::Standard::sized))]
+fn check_sized<'a>(
+    alloc: Global,
+    walk: Option<Walk>,
+    bytes: &'a [u8],
+    findings: &mut Vec<Finding<'a>>,
+) -> Result<(), AllocError>
+    ensures { OnOk result (map noted findings.new.items
+        ≡ map noted findings.old.items ++ relations_findings sized walk bytes.now) }
+{
+    check_relations(alloc, &SIZED, walk, bytes, findings)
+}
+
 #[tactic(auto, unfolding(crate::specs::Standard::referred))]
 fn check_referred<'a>(
     alloc: Global,
@@ -754,6 +772,7 @@ fn check_standard<'a>(
     check_paired(alloc, walk, bytes, findings)?;
     check_aligned(alloc, walk, bytes, findings)?;
     check_bounded(alloc, walk, bytes, findings)?;
+    check_sized(alloc, walk, bytes, findings)?;
     check_referred(alloc, walk, bytes, findings)?;
     check_placed(alloc, walk, bytes, findings)?;
     check_included(alloc, walk, bytes, findings)
