@@ -197,8 +197,9 @@ const DSDT_ASL: &str =
     "DefinitionBlock (\"\", \"DSDT\", 2, \"FOOBAR\", \"CAFEDEAD\", 0x00000001)\n{\n}\n";
 
 // ASL with a name that is twice in a scope.
-const TWICE_ASL: &str =
-    "DefinitionBlock (\"\", \"DSDT\", 2, \"FOOBAR\", \"CAFEDEAD\", 0x00000001)\n{\n    Name (AAAA, One)\n    Name (AAAA, One)\n}\n";
+const TWICE_ASL: &str = "\
+    DefinitionBlock (\"\", \"DSDT\", 2, \"FOOBAR\", \"CAFEDEAD\", 0x00000001)\n\
+    {\n    Name (AAAA, One)\n    Name (AAAA, One)\n}\n";
 
 // Lays the other tables and the text of a DSDT in a file of a new folder.
 fn lays_text(rt: &HostRuntime, paths: [&str; 5], text: &str) -> Result<(), Fail> {
