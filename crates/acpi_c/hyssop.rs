@@ -79,6 +79,7 @@ pub mod fault {
     pub const WANTS_ANOTHER_NUMBER: u32 = 88;
     pub const NOT_ASL: u32 = 89;
     pub const WANTS_INDENTED: u32 = 90;
+    pub const WANTS_GROUPS: u32 = 91;
     pub const NAME_PART: u32 = 96;
     pub const PATH_PARTS: u32 = 97;
     pub const EISA_TEXT: u32 = 98;

@@ -104,6 +104,7 @@ enum hyssop_fault {
     HYSSOP_FAULT_WANTS_ANOTHER_NUMBER = 88, /* expected another number */
     HYSSOP_FAULT_NOT_ASL = 89, /* the text isn't the ASL of a definition block */
     HYSSOP_FAULT_WANTS_INDENTED = 90, /* expected white space before a field */
+    HYSSOP_FAULT_WANTS_GROUPS = 91, /* expected as many digits in a group as a number of the field has */
     HYSSOP_FAULT_NAME_PART = 96, /* a part of a path doesn't have four bytes */
     HYSSOP_FAULT_PATH_PARTS = 97, /* a path has more than 255 parts */
     HYSSOP_FAULT_EISA_TEXT = 98, /* an EISA id is three letters from A to Z and four hexadecimal digits */

@@ -88,6 +88,7 @@ facts fault.WantsFieldOf = known 87 (expected wanted.FieldOf)
 facts fault.WantsAnotherNumber = known 88 (expected wanted.AnotherNumber)
 facts fault.NotAsl = known 89 (codes "the text isn't the ASL of a definition block")
 facts fault.WantsIndented = known 90 (expected wanted.Indented)
+facts fault.WantsGroups = known 91 (expected wanted.Groups)
 facts fault.NamePart = known 96 (text_of writing.NamePart)
 facts fault.PathParts = known 97 (text_of writing.PathParts)
 facts fault.EisaText = known 98 (text_of writing.EisaText)
@@ -129,8 +130,8 @@ later_faults =
     fault.WantsQuotationMark ∷ fault.WantsQuestionMark ∷ fault.WantsSlash ∷ fault.WantsBrace ∷ fault.WantsField ∷
     fault.WantsName ∷ fault.WantsNumber ∷ fault.WantsLabel ∷ fault.WantsBytes ∷ fault.WantsNext ∷ fault.WantsNameless ∷
     fault.WantsEnd ∷ fault.WantsStructure ∷ fault.WantsWidth ∷ fault.WantsWhole ∷ fault.WantsOneTable ∷ fault.WantsTable ∷
-    fault.WantsFieldOf ∷ fault.WantsAnotherNumber ∷ fault.NotAsl ∷ fault.WantsIndented ∷ fault.NamePart ∷ fault.PathParts ∷
-    fault.EisaText ∷ fault.UuidText ∷ fault.ArgNumber ∷ fault.LocalNumber ∷ fault.MethodArgs ∷ fault.ObjectLength ∷
+    fault.WantsFieldOf ∷ fault.WantsAnotherNumber ∷ fault.NotAsl ∷ fault.WantsIndented ∷ fault.WantsGroups ∷ fault.NamePart ∷
+    fault.PathParts ∷ fault.EisaText ∷ fault.UuidText ∷ fault.ArgNumber ∷ fault.LocalNumber ∷ fault.MethodArgs ∷ fault.ObjectLength ∷
     fault.AddressRange ∷ fault.UnknownChoice ∷ fault.OemText ∷ fault.NoneOpen ∷ fault.StillOpen ∷ fault.TooManyOpen ∷
     fault.WriterState ∷ fault.NotEmpty ∷ fault.Outside ∷ []
 

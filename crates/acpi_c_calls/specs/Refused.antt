@@ -100,6 +100,7 @@ fault_of_wanted wanted.Nameless = fault.WantsNameless
 fault_of_wanted wanted.End = fault.WantsEnd
 fault_of_wanted wanted.Structure = fault.WantsStructure
 fault_of_wanted wanted.Width = fault.WantsWidth
+fault_of_wanted wanted.Groups = fault.WantsGroups
 fault_of_wanted wanted.Whole = fault.WantsWhole
 fault_of_wanted wanted.OneTable = fault.WantsOneTable
 fault_of_wanted wanted.Table = fault.WantsTable

@@ -71,6 +71,7 @@ pub enum Fault {
     WantsAnotherNumber,
     NotAsl,
     WantsIndented,
+    WantsGroups,
     NamePart,
     PathParts,
     EisaText,
@@ -159,6 +160,7 @@ macro_rules! faults {
             WantsAnotherNumber 88 "expected another number"
             NotAsl 89 "the text isn't the ASL of a definition block"
             WantsIndented 90 "expected white space before a field"
+            WantsGroups 91 "expected as many digits in a group as a number of the field has"
             NamePart 96 "a part of a path doesn't have four bytes"
             PathParts 97 "a path has more than 255 parts"
             EisaText 98 "an EISA id is three letters from A to Z and four hexadecimal digits"

@@ -102,6 +102,7 @@ fn fault_of_wanted(wanted: Wanted) -> Fault
         Wanted::End => Fault::WantsEnd,
         Wanted::Structure => Fault::WantsStructure,
         Wanted::Width => Fault::WantsWidth,
+        Wanted::Groups => Fault::WantsGroups,
         Wanted::Whole => Fault::WantsWhole,
         Wanted::OneTable => Fault::WantsOneTable,
         Wanted::Table => Fault::WantsTable,

@@ -24,8 +24,9 @@ IsShownAs stated block kept =
     (shown : List ℕ) × IsKeptOf stated block shown
     × ((alike kept ≡ alike shown) ⊎ (alike kept ≡ alike (after_note shown)))
 
--- The bytes are a table of a definition block, whose ASL is the text but for what means nothing to a compiler. The terms are read in the
--- language of the standard, where names that the block doesn't declare take the numbers of arguments that the text gives them.
+-- The bytes are a table of a definition block, whose ASL is the text but for what means nothing to a compiler. The terms are read
+-- in the language of the standard, where names that the block doesn't declare take the numbers of arguments that the text gives
+-- them.
 pub record IsCompiled (text block : List ℕ) : Type 0 where
   pub table : IsTrueTable block
   pub terms : has_terms block ≡ true

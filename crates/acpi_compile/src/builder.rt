@@ -100,7 +100,8 @@ impl<'a> Builder<'a> {
         Ok(())
     }
 
-    // Ends the innermost list, which belongs to the last node of the list around it. In braces nothing has to follow the last comma.
+    // Ends the innermost list, which belongs to the last node of the list around it. In braces nothing has to follow the last
+    // comma.
     fn close(&mut self, at: usize, braces: bool) -> Result<(), AslError> {
         if self.inner.commas && !self.inner.braces {
             self.fill(at)?;
@@ -168,9 +169,9 @@ impl<'a> Builder<'a> {
     }
 }
 
-// What a character is part of.
+// What is being read.
 #[derive(Clone, Copy)]
-enum Part {
+enum Reading {
     Mark,
     // A word from a character on.
     Word(usize),
@@ -182,13 +183,13 @@ enum Part {
     Note(usize),
 }
 
-// The part that a character begins.
-fn begun(text: &[u8], i: usize, c: u8) -> Part {
+// What a character begins.
+fn begun(text: &[u8], i: usize, c: u8) -> Reading {
     match c {
-        b'"' => Part::Text(i),
-        b'/' if begins_note(from_offset(i, text)) => Part::Note(i),
-        _ if is_word(c) => Part::Word(i),
-        _ => Part::Mark,
+        b'"' => Reading::Text(i),
+        b'/' if begins_note(from_offset(i, text)) => Reading::Note(i),
+        _ if is_word(c) => Reading::Word(i),
+        _ => Reading::Mark,
     }
 }
 
@@ -204,39 +205,42 @@ fn between(text: &[u8], from: usize, to: usize) -> &[u8] {
 fn step<'a>(
     builder: &mut Builder<'a>,
     text: &'a [u8],
-    part: Part,
+    reading: Reading,
     i: usize,
     c: u8,
-) -> Result<Part, AslError> {
-    match part {
-        Part::Text(from) | Part::Escape(from) if c == b'\n' => Err(fault(from, Why::Unfinished)),
-        Part::Text(from) if c == b'"' => {
+) -> Result<Reading, AslError> {
+    match reading {
+        Reading::Text(from) | Reading::Escape(from) if c == b'\n' => Err(fault(
+            from,
+            Why::Unfinished,
+        )),
+        Reading::Text(from) if c == b'"' => {
             builder.word(from, between(text, from, i.saturating_add(1)))?;
-            Ok(Part::Mark)
+            Ok(Reading::Mark)
         }
-        Part::Text(from) if c == b'\\' => Ok(Part::Escape(from)),
-        Part::Note(from) if c == b'/' && between(text, from, i).ends_with(b"*") => {
+        Reading::Text(from) if c == b'\\' => Ok(Reading::Escape(from)),
+        Reading::Note(from) if c == b'/' && between(text, from, i).ends_with(b"*") => {
             builder.keep(text, from, i.saturating_add(1));
-            Ok(Part::Mark)
+            Ok(Reading::Mark)
         }
-        Part::Text(_) | Part::Note(_) => Ok(part),
-        Part::Escape(from) => Ok(Part::Text(from)),
-        Part::Word(_) if is_word(c) => Ok(part),
-        Part::Word(from) => {
+        Reading::Text(_) | Reading::Note(_) => Ok(reading),
+        Reading::Escape(from) => Ok(Reading::Text(from)),
+        Reading::Word(_) if is_word(c) => Ok(reading),
+        Reading::Word(from) => {
             builder.word(from, between(text, from, i))?;
             begin(builder, text, i, c)
         }
-        Part::Mark => begin(builder, text, i, c),
+        Reading::Mark => begin(builder, text, i, c),
     }
 }
 
 // Reads a character outside of words.
-fn begin(builder: &mut Builder<'_>, text: &[u8], i: usize, c: u8) -> Result<Part, AslError> {
-    let part = begun(text, i, c);
-    if let Part::Mark = part {
+fn begin(builder: &mut Builder<'_>, text: &[u8], i: usize, c: u8) -> Result<Reading, AslError> {
+    let reading = begun(text, i, c);
+    if let Reading::Mark = reading {
         builder.mark(i, c)?;
     }
-    Ok(part)
+    Ok(reading)
 }
 
 /// The nodes of a text without what a compiler skips.
@@ -247,21 +251,21 @@ pub fn nodes_of<'a>(alloc: Global, text: &'a [u8]) -> Result<Vec<Node<'a>>, AslE
         inner: empty_list(alloc, true),
         note: &[],
     };
-    let mut part = Part::Mark;
+    let mut reading = Reading::Mark;
     'characters: for (i, c) in text.iter().enumerate() {
-        part = step(&mut builder, text, part, i, *c)?;
+        reading = step(&mut builder, text, reading, i, *c)?;
     }
-    if let Part::Word(from) = part {
+    if let Reading::Word(from) = reading {
         builder.word(from, between(text, from, text.len()))?;
-        part = Part::Mark;
+        reading = Reading::Mark;
     }
-    match part {
-        Part::Text(from) | Part::Escape(from) => Err(fault(from, Why::Unfinished)),
-        Part::Mark if builder.outer.is_empty() => {
+    match reading {
+        Reading::Text(from) | Reading::Escape(from) => Err(fault(from, Why::Unfinished)),
+        Reading::Mark if builder.outer.is_empty() => {
             builder.no_note(text.len())?;
             Ok(builder.inner.nodes)
         }
-        Part::Note(from) => Err(fault(from, Why::Comment)),
+        Reading::Note(from) => Err(fault(from, Why::Comment)),
         _ => Err(fault(text.len(), Why::Unfinished)),
     }
 }

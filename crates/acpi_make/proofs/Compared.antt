@@ -6,10 +6,10 @@ use Rattle.acpi_base.specs.declared.walk.Walk.{Walk}
 use Rattle.acpi_text.specs.Table.{table_text}
 use Rattle.acpi_make.specs.Blamed.{blamed}
 use Rattle.acpi_make.specs.Compare.{mark_at, is_reference, is_same, Range, no_bytes, is_within, is_passed, past, rest_after, begins_same}
-use Rattle.acpi_make.specs.Compare.{has_no_name, is_empty}
+use Rattle.acpi_make.specs.Compare.{has_no_name, is_empty, misgrouped}
 use Rattle.acpi_make.specs.Compare.{cover, wanted_after, differ, difference}
 use Rattle.acpi_make.specs.Complete.{completed}
-use Rattle.acpi_make.specs.Draft.{Drafted, nothing_yet, doubt_of, all_taken}
+use Rattle.acpi_make.specs.Draft.{Drafted, nothing_yet, doubt_of, first_of, all_taken}
 use Rattle.acpi_make.specs.Fault.{Fault}
 use Rattle.acpi_make.specs.Lines.{IsAmong, AreAmong, IsSaid, IsCovered, AreSaid, IsShown, TextsAreShown}
 use Rattle.acpi_make.specs.Made.{Table, made_of, numbers_own, unless}
@@ -25,13 +25,18 @@ use Rattle.acpi_make.proofs.Truth.{then_is, unless_is, doubt_is}
 
 -- ---- which way a line went
 
+-- nothing after the first of two
+none_later : (one other : Option Fault) → first_of one other ≡ None → other ≡ None
+none_later (Some wrong) other is = absurd cc
+none_later None other is = is
+
 -- one of three ways that end with nothing
-ways : (a b c : Bool) (x y z : Option Fault) (wrong : Fault) → cond a x (cond b y (cond c z (Some wrong))) ≡ None
+ways : (a b c : Bool) (w x y z : Option Fault) (wrong : Fault) → cond a x (cond b (first_of w y) (cond c z (Some wrong))) ≡ None
     → ((a ≡ true) × (x ≡ None)) ⊎ (((b ≡ true) × (y ≡ None)) ⊎ ((c ≡ true) × (z ≡ None)))
-ways true b c x y z wrong is = inl (refl, is)
-ways false true c x y z wrong is = inr (inl (refl, is))
-ways false false true x y z wrong is = inr (inr (refl, is))
-ways false false false x y z wrong is = absurd cc
+ways true b c w x y z wrong is = inl (refl, is)
+ways false true c w x y z wrong is = inr (inl (refl, none_later w y is))
+ways false false true w x y z wrong is = inr (inr (refl, is))
+ways false false false w x y z wrong is = absurd cc
 
 either : (a b : Bool) → (a || b) ≡ true → (a ≡ true) ⊎ (b ≡ true)
 either true b is = inl refl
@@ -74,7 +79,8 @@ module _ (s t : Source) where
   all_among size covered [] others is = tt
   all_among size covered (one ∷ marks) others is =
       chosen (λ k left among. all_among size k marks left among)
-      (ways (is_reference one) (begins_same s t size end one rest) (has_no_name s one || is_empty s one end) _ _ _ _ is)
+      (ways (is_reference one) (begins_same s t size end one rest) (has_no_name s one || is_empty s one end)
+      (misgrouped s t one rest) _ _ _ _ is)
     where
       rest : List Mark
       rest = past s t one covered others
@@ -189,7 +195,8 @@ module _ (s t : Source) where
   all_known size covered [] others is = all_before size covered [] others (none_after (rest_after covered others) size is)
   all_known size covered (one ∷ marks) others is =
       chosen (λ k left known. all_known size k marks left known)
-      (ways (is_reference one) (begins_same s t size end one rest) (has_no_name s one || is_empty s one end) _ _ _ _ is)
+      (ways (is_reference one) (begins_same s t size end one rest) (has_no_name s one || is_empty s one end)
+      (misgrouped s t one rest) _ _ _ _ is)
     where
       rest : List Mark
       rest = past s t one covered others

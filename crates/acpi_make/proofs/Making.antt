@@ -7,13 +7,14 @@ use Rattle.acpi_base.specs.declared.walk.Place.{Place}
 use Rattle.acpi_base.specs.declared.walk.Walk.{Walk}
 use Rattle.acpi_make.specs.Blamed.{blamed}
 use Rattle.acpi_make.specs.Compare.{heading_number, is_same_number, mark_at, is_reference, name_in, is_same_name, is_same, Range, no_bytes, is_within, past}
-use Rattle.acpi_make.specs.Compare.{begins_same, has_no_name, is_empty, cover, wanted_for, differ, difference}
+use Rattle.acpi_make.specs.Compare.{begins_same, has_no_name, is_empty, cover, wanted_for, misgrouped, differ, difference}
 use Rattle.acpi_make.specs.Complete.{are_left, written, filled, all_filled, summed_at, summed, length_own, known, completed}
 use Rattle.acpi_make.specs.Draft.{Drafted, nothing_yet, first_of, closed, doubt_of, opened, line_found, with_line, with_heading, with_cells, all_taken}
 use Rattle.acpi_make.specs.Entry.{Entry}
 use Rattle.acpi_make.specs.Fault.{Fault}
 use Rattle.acpi_make.specs.Fits.{fits}
 use Rattle.acpi_make.specs.Gives.{with_front, and_then}
+use Rattle.acpi_make.specs.Groups.{Groups, groups_at, are_same_groups}
 use Rattle.acpi_make.specs.Item.{known_cells, cells_of}
 use Rattle.acpi_make.specs.Laws.{made_text, HasBytes, TablesAreRead, TablesAreMade}
 use Rattle.acpi_make.specs.Made.{Table, sizes_own, made_of, unless, finished, or_doubt, made}
@@ -292,6 +293,20 @@ both : (a b : Bool) → a ≡ true → b ≡ true → (a && b) ≡ true
 both true b one two = two
 both false b one two = absurd cc
 
+same_groups : (groups : Option Groups) → are_same_groups groups groups ≡ true
+same_groups (Some groups) = rw (eq-eqb groups.0 groups.0 refl, eq-eqb groups.1 groups.1 refl) refl
+same_groups None = refl
+
+none_if : (b : Bool) (wrong : Option Fault) → b ≡ true → cond b None wrong ≡ None
+none_if true wrong is = refl
+none_if false wrong is = absurd cc
+
+-- The digits of a line stand in the groups of the same line.
+groups_same : (s : Source) (one : Mark) (marks : List Mark) → misgrouped s s one (one ∷ marks) ≡ None
+groups_same s (Structure at from to) marks = refl
+groups_same s (Line at from to) marks = none_if (are_same_groups (groups_at to s.text) (groups_at to s.text)) _ (same_groups (groups_at to s.text))
+groups_same s (Reference at w from to) marks = refl
+
 -- a line that stands in both
 one_passed : (s : Source) (size : ℕ) (covered : Range) (one : Mark) (marks : List Mark) → is_reference one ≡ false
     → differ s s size covered (one ∷ marks) (one ∷ marks) ≡ differ s s size (cover s one (next_line marks size) covered) marks marks
@@ -300,11 +315,12 @@ one_passed s size covered one marks plain =
     let next = cover s one end covered in
     let same = mark_same s one plain in
     ap (λ rest. cond (is_reference one) (differ s s size covered marks (one ∷ marks))
-    (cond (begins_same s s size end one rest) (differ s s size next marks (drop 1 rest))
+    (cond (begins_same s s size end one rest) (first_of (misgrouped s s one rest) (differ s s size next marks (drop 1 rest)))
     (cond (has_no_name s one || is_empty s one end) (differ s s size next marks rest)
     (Some (wanted_for s s one end rest size)))))
     (not_passed (is_reference one) (is_same s s one one) (is_within (mark_at one) covered) (past s s one covered marks) (one ∷ marks) plain same)
     ∙ second_chosen (is_reference one) (is_same s s one one && end == end) _ _ _ plain (both (is_same s s one one) (end == end) same (eq-eqb end end refl))
+    ∙ ap (λ wrong. first_of wrong (differ s s size next marks marks)) (groups_same s one marks)
 
 no_difference : (s : Source) (size : ℕ) (covered : Range) (marks : List Mark) → NoReference marks → differ s s size covered marks marks ≡ None
 no_difference s size covered [] none = refl

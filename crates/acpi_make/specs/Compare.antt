@@ -5,10 +5,11 @@ use Rattle.acpi_base.specs.declared.walk.Walk.{Walk}
 use Rattle.acpi_text.specs.Structure.{all_forms, find_form}
 use Rattle.acpi_text.specs.Table.{table_text}
 use Rattle.acpi_text.specs.declared.form.StructureForm.{StructureForm}
-use Rattle.acpi_make.specs.Draft.{Drafted, nothing_yet, is_nameless, name_of_form, all_taken}
+use Rattle.acpi_make.specs.Draft.{Drafted, nothing_yet, is_nameless, name_of_form, first_of, all_taken}
 use Rattle.acpi_make.specs.Entry.{find_anywhere, name_found, is_open}
-use Rattle.acpi_make.specs.Fault.{Fault, fault, next, wide}
+use Rattle.acpi_make.specs.Fault.{Fault, fault, next, wide, grouped}
 use Rattle.acpi_make.specs.Gives.{and_then}
+use Rattle.acpi_make.specs.Groups.{groups_at, are_same_groups, largest_of}
 use Rattle.acpi_make.specs.Heading.{described, find_named}
 use Rattle.acpi_make.specs.Meaning.{parts_of}
 use Rattle.acpi_make.specs.Own.{next_line}
@@ -155,6 +156,14 @@ wanted_for s t (Structure at from to) end others size = wanted_at t from to othe
 wanted_for s t (Line at from to) end others size = wanted_at t from to others size
 wanted_for s t (Reference at w from to) end others size = wanted_at t from to others size
 
+-- A line whose digits stand in other groups than those of the first of others, which says the same. So a number isn't in several
+-- groups, whose bytes would be in the other order, and bytes aren't in one.
+abbrev pub misgrouped : Source → Source → Mark → List Mark → Option Fault
+misgrouped s t (Line at from to) (Line start since until ∷ others) =
+    if are_same_groups (groups_at to s.text) (groups_at until t.text) then None
+    else Some (grouped from to (name_found (find_anywhere (name_in t since until) t.form)) (largest_of (groups_at until t.text)))
+misgrouped s t one others = None
+
 -- the end of a text, after which the other text has these marks
 abbrev pub wanted_after : Source → List Mark → ℕ → Option Fault
 wanted_after t [] end = None
@@ -169,7 +178,8 @@ differ s t size covered (one ∷ marks) others =
     let rest = past s t one covered others in
     let end = next_line marks size in
     if is_reference one then differ s t size covered marks others
-    else (if begins_same s t size end one rest then differ s t size (cover s one end covered) marks (drop 1 rest)
+    else (if begins_same s t size end one rest
+    then first_of (misgrouped s t one rest) (differ s t size (cover s one end covered) marks (drop 1 rest))
     else (if has_no_name s one || is_empty s one end then differ s t size (cover s one end covered) marks rest
     else Some (wanted_for s t one end rest size)))
 

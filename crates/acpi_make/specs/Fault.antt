@@ -42,6 +42,11 @@ abbrev pub wide : ℕ → ℕ → List ℕ → ℕ → ℕ → Fault
 wide from to name width found =
     record { from = from; to = to; wanted = wanted.Width; name = name; width = width; found = found }
 
+-- a field whose digits stand in other groups in the text, where its numbers have this many digits
+abbrev pub grouped : ℕ → ℕ → List ℕ → ℕ → Fault
+grouped from to name digits =
+    record { from = from; to = to; wanted = wanted.Groups; name = name; width = digits; found = 0 }
+
 -- a field that a table or a structure lacks, whose length is left out
 abbrev pub whole : ℕ → ℕ → List ℕ → ℕ → Fault
 whole from to name width = record { from = from; to = to; wanted = wanted.Whole; name = name; width = width; found = 0 }
@@ -98,6 +103,7 @@ words wanted.Nameless = codes "Bytes, since no field of the form stands here"
 words wanted.End = codes "the end of the table"
 words wanted.Structure = codes "the name or the type of a structure of this table"
 words wanted.Width = codes "as many bytes as the field has"
+words wanted.Groups = codes "as many digits in a group as a number of the field has"
 words wanted.FieldOf = codes "a field"
 words wanted.AnotherNumber = codes "another number"
 words wanted.Whole = codes "all fields, since the length is left out"
@@ -116,6 +122,11 @@ abbrev pub width_text : List ℕ → ℕ → List ℕ
 width_text name width =
     if width == 1 then codes "1 byte of " ++ name else decimal width ++ (codes " bytes of " ++ name)
 
+abbrev pub groups_text : List ℕ → ℕ → List ℕ
+groups_text name digits =
+    if length name == 0 then codes "groups of " ++ (decimal digits ++ codes " digits")
+    else codes "groups of " ++ (decimal digits ++ (codes " digits in " ++ name))
+
 abbrev pub whole_text : List ℕ → ℕ → List ℕ
 whole_text name width =
     if width == 1 then name ++ codes " (1 byte), since the length is left out"
@@ -124,6 +135,7 @@ whole_text name width =
 abbrev pub text_of_wanted : Wanted → List ℕ → ℕ → List ℕ
 text_of_wanted wanted.Next name width = next_text name width
 text_of_wanted wanted.Width name width = width_text name width
+text_of_wanted wanted.Groups name width = groups_text name width
 text_of_wanted wanted.AnotherNumber name width = decimal width ++ (codes " in " ++ name)
 text_of_wanted wanted.FieldOf name width = codes "a field of " ++ name
 text_of_wanted wanted.Whole name width = whole_text name width
@@ -160,6 +172,7 @@ part_text from part =
 
 abbrev pub text_of_found : Wanted → ℕ → ℕ → List ℕ → List ℕ
 text_of_found wanted.Width from found part = decimal found
+text_of_found wanted.Groups from found part = codes "other groups"
 text_of_found wanted.AnotherNumber from found part = codes "another number"
 text_of_found wanted from found part = part_text from part
 

@@ -3,6 +3,7 @@ pub mod Fault
 pub mod Item
 pub mod Text
 pub mod Entry
+pub mod Groups
 pub mod Value
 pub mod Heading
 pub mod Fits

@@ -4,7 +4,7 @@
 ghost use Rattle.std.specs.Prelude.{◌≡◌, List, ◌∷◌, Some, MatchResult};
 ghost use Rattle.acpi_make.specs.Compare.{heading_number, is_same_number, mark_at, is_reference, name_in, is_same_name, is_same};
 ghost use Rattle.acpi_make.specs.Compare.{is_passed, no_bytes, is_within, past, rest_after, begins_same, has_no_name};
-ghost use Rattle.acpi_make.specs.Compare.{is_empty, cover};
+ghost use Rattle.acpi_make.specs.Compare.{is_empty, cover, misgrouped};
 ghost use Rattle.acpi_make.specs.Compare.{name_of_number, wanted_at, wanted_for, wanted_after, differ, difference};
 ghost use Rattle.acpi_make.specs.Draft.{drafted, fault_in};
 ghost use Rattle.acpi_make.specs.Range.{range_of};
@@ -19,6 +19,7 @@ ghost use Rattle.acpi_text.specs.Structure.{all_forms};
 use crate::draft::{Draft, Mark, Source, draft_of, is_nameless};
 use crate::entry::{Field, find_anywhere};
 use crate::fault::{Fault, MakeError, Wanted};
+use crate::groups::{are_same_groups, groups_at, largest_of};
 use crate::heading::{described, find_named};
 use crate::own::next_line;
 use crate::read::read_text;
@@ -351,6 +352,34 @@ fn wanted_for(
     }
 }
 
+// Returns the fault of a line whose digits stand in other groups than those of the first of others, which says the same. So a
+// number isn't in several groups, whose bytes would be in the other order, and bytes aren't in one.
+fn misgrouped(source: &Source, shown: &Source, one: &Mark, others: &[Mark]) -> Option<Fault>
+    ensures { fault_in result ≡ misgrouped (source_of source.now) (source_of shown.now) one.now others.now }
+{
+    match (*one, others) {
+        (
+            Mark::Line { from, to, .. },
+            [
+                Mark::Line {
+                    from: since,
+                    to: until,
+                    ..
+                },
+                ..
+            ],
+        ) => {
+            let wanted = groups_at(*until, shown.text);
+            if are_same_groups(groups_at(to, source.text), wanted) {
+                return None;
+            }
+            let field = find_anywhere(name_in(shown, *since, *until), &shown.form);
+            Some(Fault::grouped(from, to, name_found(field), largest_of(wanted)))
+        }
+        _ => None,
+    }
+}
+
 // Returns the fault of the end of a text, after which the other text has these marks.
 fn wanted_after(shown: &Source, others: &[Mark], end: usize) -> Option<Fault>
     ensures { fault_in result ≡ wanted_after (source_of shown.now) others.now end }
@@ -386,7 +415,10 @@ fn compare<'a>(
     let rest = past(source, shown, one, covered, others);
     let next = cover(source, one, end, covered);
     if begins_same(source, shown, size, end, one, rest) {
-        return Ok((next, &rest[1..]));
+        return match misgrouped(source, shown, one, rest) {
+            Some(fault) => Err(fault),
+            None => Ok((next, &rest[1..])),
+        };
     }
     if has_no_name(source, one) || is_empty(source, one, end) {
         return Ok((next, rest));

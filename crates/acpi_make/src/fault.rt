@@ -2,7 +2,7 @@
 
 ghost use Rattle.std.specs.Prelude.{◌≡◌, true, IfOk, Some, string_bytes};
 ghost use Rattle.acpi_text.specs.Label.{all_print};
-ghost use Rattle.acpi_make.specs.Fault.{fault, next, wide, whole, another, field_of, fault_of, line_at, column_at, words};
+ghost use Rattle.acpi_make.specs.Fault.{fault, next, wide, grouped, whole, another, field_of, fault_of, line_at, column_at, words};
 ghost use Rattle.acpi_make.specs.Fault.{wanted_text, found_text, explained};
 ghost use Rattle.acpi_make.specs.Fault.{without_end, quoted, part_text, error_text};
 ghost use Rattle.acpi_make.specs.declared.fault.MakeError.TheVariants.{Memory};
@@ -53,6 +53,8 @@ pub enum Wanted {
     Structure,
     /// As many bytes as the field has.
     Width,
+    /// Groups of as many digits as a number of the field has.
+    Groups,
     /// Another number: the one that the field has to have.
     AnotherNumber,
     /// A field of a form.
@@ -148,6 +150,7 @@ impl Wanted {
             Wanted::End => "the end of the table",
             Wanted::Structure => "the name or the type of a structure of this table",
             Wanted::Width => "as many bytes as the field has",
+            Wanted::Groups => "as many digits in a group as a number of the field has",
             Wanted::AnotherNumber => "another number",
             Wanted::FieldOf => "a field",
             Wanted::Whole => "all fields, since the length is left out",
@@ -215,6 +218,20 @@ impl Fault {
         }
     }
 
+    /// A field whose digits stand in other groups in the text. Its numbers have this many digits.
+    pub fn grouped(from: usize, to: usize, name: &'static str, digits: usize) -> Fault
+        ensures { fault_of result ≡ grouped from to name.now digits }
+    {
+        Fault {
+            from,
+            to,
+            wanted: Wanted::Groups,
+            name,
+            width: digits,
+            found: 0,
+        }
+    }
+
     /// A field in which another number has to stand.
     pub fn another(from: usize, to: usize, name: &'static str, number: usize) -> Fault
         ensures { fault_of result ≡ another from to name.now number }
@@ -255,6 +272,8 @@ impl Fault {
             Wanted::Next => format!(in alloc; "{name} ({width} bytes)"),
             Wanted::Width if width == 1 => format!(in alloc; "1 byte of {name}"),
             Wanted::Width => format!(in alloc; "{width} bytes of {name}"),
+            Wanted::Groups if name.is_empty() => format!(in alloc; "groups of {width} digits"),
+            Wanted::Groups => format!(in alloc; "groups of {width} digits in {name}"),
             Wanted::AnotherNumber => format!(in alloc; "{width} in {name}"),
             Wanted::FieldOf => format!(in alloc; "a field of {name}"),
             Wanted::Whole if width == 1 => format!(in alloc;
@@ -280,6 +299,7 @@ impl Fault {
                 let found = self.found;
                 format!(in alloc; "{found}")
             }
+            Wanted::Groups => format!(in alloc; "other groups"),
             Wanted::AnotherNumber => format!(in alloc; "another number"),
             _ => part_text(alloc, self.from, part),
         }

@@ -11,6 +11,7 @@ pub mod entry;
 pub mod extent;
 pub mod fault;
 pub mod file_kind;
+mod groups;
 pub mod heading;
 mod inner;
 pub mod item;

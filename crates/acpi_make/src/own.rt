@@ -491,8 +491,8 @@ fn push_reference(
     }
 }
 
-/// Adds the offsets of the structures to which references refer. The error is that memory ran out, or that one structure with this
-/// label is wanted.
+/// Adds the offsets of the structures to which references refer. The error is that memory ran out, or that one structure with
+/// this label is wanted.
 pub fn push_references(text: &[u8], marks: &[Mark], owns: &mut Vec<Own>) -> Result<(), MakeError>
     ensures { Changes result owns.new.items (with_front owns.old.items (references_own text.now marks.now marks.now)) }
 {
