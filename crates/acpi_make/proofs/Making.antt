@@ -9,7 +9,7 @@ use Rattle.acpi_make.specs.Blamed.{blamed}
 use Rattle.acpi_make.specs.Compare.{heading_number, is_same_number, mark_at, is_reference, name_in, is_same_name, is_same, Range, no_bytes, is_within, past}
 use Rattle.acpi_make.specs.Compare.{begins_same, has_no_name, is_empty, cover, wanted_for, misgrouped, differ, difference}
 use Rattle.acpi_make.specs.Complete.{are_left, written, filled, all_filled, summed_at, summed, length_own, known, completed}
-use Rattle.acpi_make.specs.Draft.{Drafted, nothing_yet, first_of, closed, doubt_of, opened, line_found, with_line, with_heading, with_cells, all_taken}
+use Rattle.acpi_make.specs.Draft.{Drafted, nothing_yet, is_nameless, first_of, closed, doubt_of, opened, line_found, with_line, with_heading, with_cells, all_taken}
 use Rattle.acpi_make.specs.Entry.{Entry}
 use Rattle.acpi_make.specs.Fault.{Fault}
 use Rattle.acpi_make.specs.Fits.{fits}
@@ -297,14 +297,15 @@ same_groups : (groups : Option Groups) → are_same_groups groups groups ≡ tru
 same_groups (Some groups) = rw (eq-eqb groups.0 groups.0 refl, eq-eqb groups.1 groups.1 refl) refl
 same_groups None = refl
 
-none_if : (b : Bool) (wrong : Option Fault) → b ≡ true → cond b None wrong ≡ None
-none_if true wrong is = refl
-none_if false wrong is = absurd cc
+none_if : (a b : Bool) (wrong : Option Fault) → b ≡ true → cond (a || b) None wrong ≡ None
+none_if true b wrong is = refl
+none_if false true wrong is = refl
+none_if false false wrong is = absurd cc
 
 -- The digits of a line stand in the groups of the same line.
 groups_same : (s : Source) (one : Mark) (marks : List Mark) → misgrouped s s one (one ∷ marks) ≡ None
 groups_same s (Structure at from to) marks = refl
-groups_same s (Line at from to) marks = none_if (are_same_groups (groups_at to s.text) (groups_at to s.text)) _ (same_groups (groups_at to s.text))
+groups_same s (Line at from to) marks = none_if (is_nameless (name_in s from to)) (are_same_groups (groups_at to s.text) (groups_at to s.text)) _ (same_groups (groups_at to s.text))
 groups_same s (Reference at w from to) marks = refl
 
 -- a line that stands in both

@@ -123,9 +123,7 @@ width_text name width =
     if width == 1 then codes "1 byte of " ++ name else decimal width ++ (codes " bytes of " ++ name)
 
 abbrev pub groups_text : List ℕ → ℕ → List ℕ
-groups_text name digits =
-    if length name == 0 then codes "groups of " ++ (decimal digits ++ codes " digits")
-    else codes "groups of " ++ (decimal digits ++ (codes " digits in " ++ name))
+groups_text name digits = codes "groups of " ++ (decimal digits ++ (codes " digits in " ++ name))
 
 abbrev pub whole_text : List ℕ → ℕ → List ℕ
 whole_text name width =

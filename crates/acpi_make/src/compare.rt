@@ -352,8 +352,8 @@ fn wanted_for(
     }
 }
 
-// Returns the fault of a line whose digits stand in other groups than those of the first of others, which says the same. So a
-// number isn't in several groups, whose bytes would be in the other order, and bytes aren't in one.
+// Returns the fault of a line with a name, whose digits stand in other groups than those of the first of others, which says the
+// same. So a number isn't in several groups, whose bytes would be in the other order, and bytes aren't in one.
 fn misgrouped(source: &Source, shown: &Source, one: &Mark, others: &[Mark]) -> Option<Fault>
     ensures { fault_in result ≡ misgrouped (source_of source.now) (source_of shown.now) one.now others.now }
 {
@@ -370,7 +370,8 @@ fn misgrouped(source: &Source, shown: &Source, one: &Mark, others: &[Mark]) -> O
             ],
         ) => {
             let wanted = groups_at(*until, shown.text);
-            if are_same_groups(groups_at(to, source.text), wanted) {
+            let name = name_in(source, from, to);
+            if is_nameless(name) || are_same_groups(groups_at(to, source.text), wanted) {
                 return None;
             }
             let field = find_anywhere(name_in(shown, *since, *until), &shown.form);

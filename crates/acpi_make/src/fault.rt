@@ -272,7 +272,6 @@ impl Fault {
             Wanted::Next => format!(in alloc; "{name} ({width} bytes)"),
             Wanted::Width if width == 1 => format!(in alloc; "1 byte of {name}"),
             Wanted::Width => format!(in alloc; "{width} bytes of {name}"),
-            Wanted::Groups if name.is_empty() => format!(in alloc; "groups of {width} digits"),
             Wanted::Groups => format!(in alloc; "groups of {width} digits in {name}"),
             Wanted::AnotherNumber => format!(in alloc; "{width} in {name}"),
             Wanted::FieldOf => format!(in alloc; "a field of {name}"),
