@@ -156,8 +156,8 @@ wanted_for s t (Structure at from to) end others size = wanted_at t from to othe
 wanted_for s t (Line at from to) end others size = wanted_at t from to others size
 wanted_for s t (Reference at w from to) end others size = wanted_at t from to others size
 
--- A line with a name, whose digits stand in other groups than those of the first of others, which says the same. So a number isn't
--- in several groups, whose bytes would be in the other order, and bytes aren't in one.
+-- A line with a name, whose digits stand in other groups than those of the first of others, which says the same. So a number
+-- isn't in several groups, whose bytes would be in the other order, and bytes aren't in one.
 abbrev pub misgrouped : Source → Source → Mark → List Mark → Option Fault
 misgrouped s t (Line at from to) (Line start since until ∷ others) =
     if is_nameless (name_in s from to) || are_same_groups (groups_at to s.text) (groups_at until t.text) then None

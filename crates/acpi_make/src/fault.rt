@@ -2,8 +2,8 @@
 
 ghost use Rattle.std.specs.Prelude.{◌≡◌, true, IfOk, Some, string_bytes};
 ghost use Rattle.acpi_text.specs.Label.{all_print};
-ghost use Rattle.acpi_make.specs.Fault.{fault, next, wide, grouped, whole, another, field_of, fault_of, line_at, column_at, words};
-ghost use Rattle.acpi_make.specs.Fault.{wanted_text, found_text, explained};
+ghost use Rattle.acpi_make.specs.Fault.{fault, next, wide, grouped, whole, another, field_of, fault_of, line_at, column_at};
+ghost use Rattle.acpi_make.specs.Fault.{words, wanted_text, found_text, explained};
 ghost use Rattle.acpi_make.specs.Fault.{without_end, quoted, part_text, error_text};
 ghost use Rattle.acpi_make.specs.declared.fault.MakeError.TheVariants.{Memory};
 

@@ -1,8 +1,8 @@
 //! The groups in which the digits of a line stand.
 
 ghost use Rattle.std.specs.Prelude.{◌≡◌, ◌≤◌, length};
-ghost use Rattle.acpi_make.specs.Groups.{greater, no_digits, with_digit, with_character, is_end, all_groups, groups_from, value_size};
-ghost use Rattle.acpi_make.specs.Groups.{groups_in, after_colon, groups_at, are_same_groups, largest_of};
+ghost use Rattle.acpi_make.specs.Groups.{greater, no_digits, with_digit, with_character, is_end, all_groups, groups_from};
+ghost use Rattle.acpi_make.specs.Groups.{value_size, groups_in, after_colon, groups_at, are_same_groups, largest_of};
 
 use crate::entry::next_number;
 use crate::text::is_white;
