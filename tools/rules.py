@@ -3,14 +3,16 @@
     python3 -B tools/rules.py            compares the lists with what they have to be; the status is 1 if they differ
     python3 -B tools/rules.py renew      writes the lists
 
-The rules are the rows of crates/acpi_rules/src/standard.rt, machine.rt and single.rt. Each name of a field has to be in the
-sources of the forms. Where docs/FIELDS.md has the structure of a rule, its field has to be there with the same offset and width.
+The rules are the rows of numbers.rt, standard.rt, machine.rt and single.rt in crates/acpi_rules/src. Each name of a field has to
+be in the sources of the forms. Where docs/FIELDS.md has the structure of a rule, its field has to be there with the same offset
+and width.
 """
 import glob
 import re
 import sys
 import textwrap
 
+NUMBERS = "crates/acpi_rules/src/numbers.rt"
 SOURCE = "crates/acpi_rules/src/standard.rt"
 MACHINE = "crates/acpi_rules/src/machine.rt"
 SINGLE = "crates/acpi_rules/src/single.rt"
@@ -297,11 +299,11 @@ def replaced(document, begin, end, lines):
 
 
 def main():
-    text, machine, single = read(SOURCE), read(MACHINE), read(SINGLE)
+    ranges, text, machine, single = read(NUMBERS), read(SOURCE), read(MACHINE), read(SINGLE)
     found, several = list(relations(text)), list(links(machine))
-    rows = [*limits(text), *(it for it, _ in found)]
-    if len(rows) != text.count("Limit {\n") + text.count("    rule!(") or len(several) != machine.count("    link!("):
-        stop(f"{SOURCE} or {MACHINE} has rows that can't be read")
+    rows = [*limits(ranges), *(it for it, _ in found)]
+    if len(rows) != ranges.count("Limit {\n") + text.count("    rule!(") or len(several) != machine.count("    link!("):
+        stop(f"{NUMBERS}, {SOURCE} or {MACHINE} has rows that can't be read")
     check_fields(found + [((table,), field) for _, fields in several for table, field in fields])
     document = read(DOCUMENT)
     wanted = replaced(document, BEGIN, END, listed(rows))
@@ -311,7 +313,7 @@ def main():
         with open(DOCUMENT, "w", encoding="utf-8") as file:
             file.write(wanted)
     elif document != wanted:
-        sources = f"{SOURCE}, {MACHINE} and {SINGLE}"
+        sources = f"{NUMBERS}, {SOURCE}, {MACHINE} and {SINGLE}"
         stop(f"the rules in {DOCUMENT} aren't those of {sources}: `python3 -B tools/rules.py renew` writes them")
 
 

@@ -17,6 +17,7 @@ pub mod line;
 pub mod link;
 pub mod machine;
 pub mod matrix;
+pub mod numbers;
 pub mod order;
 pub mod part;
 pub mod reference;
