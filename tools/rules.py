@@ -26,6 +26,7 @@ NAMES.update({"Counts": "count", "Agrees": "pair", "Needed": "required", "Needs"
 NAMES.update({"Multiple": "multiple", "Points": "reference", "Refers": "reference", "Ends": "cycle", "Distances": "distance"})
 NAMES.update({"Includes": "present", "NotAll": "not-all", "Inside": "inside"})
 NAMES.update({"DiffersIn": "unique", "DiffersWith": "unique", "Blocks": "no-overflow", "All": "range"})
+NAMES.update({"Terminated": "terminated", "TerminatedAt": "terminated", "TerminatedBefore": "terminated"})
 
 
 def stop(why):
@@ -159,6 +160,13 @@ def demand(text, named):
         return f"doesn't have all of the bits {number(arguments[0]):#x}"
     if kind == "All":
         return f"has all of the bits {number(arguments[0]):#x}"
+    if kind == "Terminated":
+        return f"as many bytes as {spot(arguments[0])[2]} says, which begin at this offset, end with a zero"
+    if kind == "TerminatedAt":
+        return f"as many bytes as it says, which begin at offset {arguments[0]}, end with a zero"
+    if kind == "TerminatedBefore":
+        end = spot(arguments[1])[2]
+        return f"a string that begins there has a zero before the offset in {end}, or before the end if that is 0"
     if kind == "Points":
         return f"is zero, or the offset of a structure of {types(arguments[0].strip('&[]').split(', '))}"
     if kind == "Refers":
@@ -274,7 +282,10 @@ def check_fields(found):
         heading = {"Whole": "after the header", "Each": "entry"}.get(kind) or f"type {arguments[0]},"
         items = [it for it in shown.get(table, "").split(" - ") if it.startswith(heading)]
         wanted = f"{offset} {name}:{width}"
-        if items and kind in ("Kind", "Each") and not any(re.search(r"\b" + re.escape(wanted) + r"\b", it) for it in items):
+        # A rule on a string has its first byte.
+        known = [wanted, f"{offset} {name}:n"] if width == 1 else [wanted]
+        pattern = rf"\b(?:{'|'.join(map(re.escape, known))})\b"
+        if items and kind in ("Kind", "Each") and not any(re.search(pattern, it) for it in items):
             stop(f"{FIELDS} has no field `{wanted}` in {table}, {heading.strip(',')}")
 
 

@@ -59,6 +59,9 @@ fn clash(demand: &Demand, a: &Item<'_>, b: &Item<'_>) -> bool
         | Demand::Multiple(_)
         | Demand::NotAll(_)
         | Demand::All(_)
+        | Demand::Terminated(_)
+        | Demand::TerminatedAt(_)
+        | Demand::TerminatedBefore(_, _)
         | Demand::Points(_)
         | Demand::Refers(_, _)
         | Demand::Ends

@@ -28,3 +28,4 @@ pub mod sibling;
 pub mod single;
 pub mod standard;
 pub mod table;
+pub mod terminated;

@@ -6,12 +6,13 @@ ghost use Rattle.acpi_rules.specs.Finding.{noted};
 ghost use Rattle.acpi_rules.specs.Rules.{fields_findings};
 ghost use Rattle.acpi_rules.specs.Relation.{relations_findings};
 ghost use Rattle.acpi_rules.specs.Standard.{allowed_numbers, ranges, numbered, different, ordered, counted, paired, aligned};
-ghost use Rattle.acpi_rules.specs.Standard.{bounded, sized, referred, placed, included, standard_findings, table_findings};
+ghost use Rattle.acpi_rules.specs.Standard.{bounded, sized, strings, referred, placed, included};
+ghost use Rattle.acpi_rules.specs.Standard.{standard_findings, table_findings};
 
 use crate::demand::Demand::{
     Addresses, Agrees, All, Apart, AtMost, Between, Blocks, Counts, Differs, DiffersIn,
     DiffersWith, Disjoint, Distances, Ends, Includes, Inside, Multiple, Needed, Needs, NotAll,
-    Points, Refers,
+    Points, Refers, Terminated, TerminatedAt, TerminatedBefore,
 };
 use crate::demand::Of::{Each, Entries, Kind, Whole};
 use crate::demand::When::{Always, Is, Not};
@@ -365,6 +366,25 @@ const SIZED: [Relation; 13] = [
     rule!("HEST", Kind(10), Always, spot!(33, 1, "Length"), Between(28, 28), "ACPI 6.5, 18.3.2.9"),
 ];
 
+// Strings that end with a zero.
+#[rattlefmt::skip]
+const STRINGS: [Relation; 7] = [
+    // The numbers of their bytes, which count the zero, stand in fields.
+    rule!("DBG2", Each, Always, spot!(6, 2, "NamespaceStringOffset"), Terminated(spot!(4, 2, "NamespaceStringLength")),
+        "Microsoft DBG2"),
+    rule!("SPCR", Whole, Always, spot!(86, 2, "NamespaceStringOffset"), Terminated(spot!(84, 2, "NamespaceStringLength")),
+        "Microsoft SPCR"),
+    rule!("RHCT", Kind(0), Always, spot!(6, 2, "ISA string length"), TerminatedAt(8), "ACPI 6.6"),
+    // They end before the end of their structure or table, or before what follows them in it.
+    rule!("ECDT", Whole, Always, spot!(65, 1, "EC_ID"), TerminatedBefore(65, spot!(4, 4, "Length")), "ACPI 6.5, 5.2.15"),
+    rule!("DMAR", Kind(4), Always, spot!(8, 1, "ACPI Object Name"), TerminatedBefore(8, spot!(2, 2, "Length")),
+        "VT-d 4.1, 8.7"),
+    rule!("IORT", Kind(1), Always, spot!(29, 1, "Device Object Name"),
+        TerminatedBefore(29, spot!(12, 4, "Reference to ID Array")), "Arm DEN0049E.d"),
+    rule!("RIMT", Kind(2), Always, spot!(12, 1, "Device Object Name"),
+        TerminatedBefore(12, spot!(8, 2, "Offset of Mappings")), "RISC-V RIMT"),
+];
+
 /// The rules on fields that are those of other structures of a table.
 #[rattlefmt::skip]
 pub const REFERRED: [Relation; 21] = [
@@ -566,6 +586,19 @@ fn check_sized<'a>(
     check_relations(alloc, &SIZED, walk, bytes, findings)
 }
 
+#[tactic(auto, unfolding(crate::specs::Standard::strings))]
+fn check_strings<'a>(
+    alloc: Global,
+    walk: Option<Walk>,
+    bytes: &'a [u8],
+    findings: &mut Vec<Finding<'a>>,
+) -> Result<(), AllocError>
+    ensures { OnOk result (map noted findings.new.items
+        ≡ map noted findings.old.items ++ relations_findings strings walk bytes.now) }
+{
+    check_relations(alloc, &STRINGS, walk, bytes, findings)
+}
+
 #[tactic(auto, unfolding(crate::specs::Standard::referred))]
 fn check_referred<'a>(
     alloc: Global,
@@ -625,6 +658,7 @@ fn check_standard<'a>(
     check_aligned(alloc, walk, bytes, findings)?;
     check_bounded(alloc, walk, bytes, findings)?;
     check_sized(alloc, walk, bytes, findings)?;
+    check_strings(alloc, walk, bytes, findings)?;
     check_referred(alloc, walk, bytes, findings)?;
     check_placed(alloc, walk, bytes, findings)?;
     check_included(alloc, walk, bytes, findings)
