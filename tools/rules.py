@@ -166,7 +166,7 @@ def demand(text, named):
         return f"as many bytes as it says, which begin at offset {arguments[0]}, end with a zero"
     if kind == "TerminatedBefore":
         end = spot(arguments[1])[2]
-        return f"a string that begins there has a zero before the offset in {end}, or before the end if that is 0"
+        return f"the string that begins there has a zero before the offset in {end}, or before the end if that is 0"
     if kind == "Points":
         return f"is zero, or the offset of a structure of {types(arguments[0].strip('&[]').split(', '))}"
     if kind == "Refers":

@@ -41,7 +41,7 @@ pub fn add_related<'a>(
     Ok(())
 }
 
-/// Adds that a field has the same bytes as that of a part before it, whose offset is a number.
+/// Adds that a field has the same bytes as that of a part before it, which is at an offset.
 pub fn add_unique<'a>(
     section: &'static str,
     at: usize,
