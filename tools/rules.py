@@ -3,14 +3,16 @@
     python3 -B tools/rules.py            compares the lists with what they have to be; the status is 1 if they differ
     python3 -B tools/rules.py renew      writes the lists
 
-The rules are the rows of crates/acpi_rules/src/standard.rt, machine.rt and single.rt. Each name of a field has to be in the
-sources of the forms. Where docs/FIELDS.md has the structure of a rule, its field has to be there with the same offset and width.
+The rules are the rows of numbers.rt, standard.rt, machine.rt and single.rt in crates/acpi_rules/src. Each name of a field has to
+be in the sources of the forms. Where docs/FIELDS.md has the structure of a rule, its field has to be there with the same offset
+and width.
 """
 import glob
 import re
 import sys
 import textwrap
 
+NUMBERS = "crates/acpi_rules/src/numbers.rt"
 SOURCE = "crates/acpi_rules/src/standard.rt"
 MACHINE = "crates/acpi_rules/src/machine.rt"
 SINGLE = "crates/acpi_rules/src/single.rt"
@@ -24,6 +26,7 @@ NAMES.update({"Counts": "count", "Agrees": "pair", "Needed": "required", "Needs"
 NAMES.update({"Multiple": "multiple", "Points": "reference", "Refers": "reference", "Ends": "cycle", "Distances": "distance"})
 NAMES.update({"Includes": "present", "NotAll": "not-all", "Inside": "inside"})
 NAMES.update({"DiffersIn": "unique", "DiffersWith": "unique", "Blocks": "no-overflow", "All": "range"})
+NAMES.update({"Terminated": "terminated", "TerminatedAt": "terminated", "TerminatedBefore": "terminated"})
 
 
 def stop(why):
@@ -157,6 +160,13 @@ def demand(text, named):
         return f"doesn't have all of the bits {number(arguments[0]):#x}"
     if kind == "All":
         return f"has all of the bits {number(arguments[0]):#x}"
+    if kind == "Terminated":
+        return f"as many bytes as {spot(arguments[0])[2]} says, which begin at this offset, end with a zero"
+    if kind == "TerminatedAt":
+        return f"as many bytes as it says, which begin at offset {arguments[0]}, end with a zero"
+    if kind == "TerminatedBefore":
+        end = spot(arguments[1])[2]
+        return f"the string that begins there has a zero before the offset in {end}, or before the end if that is 0"
     if kind == "Points":
         return f"is zero, or the offset of a structure of {types(arguments[0].strip('&[]').split(', '))}"
     if kind == "Refers":
@@ -272,7 +282,10 @@ def check_fields(found):
         heading = {"Whole": "after the header", "Each": "entry"}.get(kind) or f"type {arguments[0]},"
         items = [it for it in shown.get(table, "").split(" - ") if it.startswith(heading)]
         wanted = f"{offset} {name}:{width}"
-        if items and kind in ("Kind", "Each") and not any(re.search(r"\b" + re.escape(wanted) + r"\b", it) for it in items):
+        # A rule on a string has its first byte.
+        known = [wanted, f"{offset} {name}:n"] if width == 1 else [wanted]
+        pattern = rf"\b(?:{'|'.join(map(re.escape, known))})\b"
+        if items and kind in ("Kind", "Each") and not any(re.search(pattern, it) for it in items):
             stop(f"{FIELDS} has no field `{wanted}` in {table}, {heading.strip(',')}")
 
 
@@ -297,11 +310,11 @@ def replaced(document, begin, end, lines):
 
 
 def main():
-    text, machine, single = read(SOURCE), read(MACHINE), read(SINGLE)
+    ranges, text, machine, single = read(NUMBERS), read(SOURCE), read(MACHINE), read(SINGLE)
     found, several = list(relations(text)), list(links(machine))
-    rows = [*limits(text), *(it for it, _ in found)]
-    if len(rows) != text.count("Limit {\n") + text.count("    rule!(") or len(several) != machine.count("    link!("):
-        stop(f"{SOURCE} or {MACHINE} has rows that can't be read")
+    rows = [*limits(ranges), *(it for it, _ in found)]
+    if len(rows) != ranges.count("Limit {\n") + text.count("    rule!(") or len(several) != machine.count("    link!("):
+        stop(f"{NUMBERS}, {SOURCE} or {MACHINE} has rows that can't be read")
     check_fields(found + [((table,), field) for _, fields in several for table, field in fields])
     document = read(DOCUMENT)
     wanted = replaced(document, BEGIN, END, listed(rows))
@@ -311,7 +324,7 @@ def main():
         with open(DOCUMENT, "w", encoding="utf-8") as file:
             file.write(wanted)
     elif document != wanted:
-        sources = f"{SOURCE}, {MACHINE} and {SINGLE}"
+        sources = f"{NUMBERS}, {SOURCE}, {MACHINE} and {SINGLE}"
         stop(f"the rules in {DOCUMENT} aren't those of {sources}: `python3 -B tools/rules.py renew` writes them")
 
 

@@ -9,7 +9,7 @@ use Rattle.acpi_rules.specs.Line.{severity, rule_name}
 use Rattle.acpi_rules.specs.declared.finding.Rule.{Rule}
 use Rattle.acpi_rules.specs.declared.finding.Rule.TheVariants.{ReservedBytes, ReservedBits, ReservedValue, StructureLength, Range}
 use Rattle.acpi_rules.specs.declared.finding.Rule.TheVariants.{Unique, Overlap, Disjoint, AtMost, Inside, Count, Pair}
-use Rattle.acpi_rules.specs.declared.finding.Rule.TheVariants.{Cycle, Distance, Multiple, NotAll, Below, Single, Copy}
+use Rattle.acpi_rules.specs.declared.finding.Rule.TheVariants.{Cycle, Distance, Multiple, NotAll, Below, Single, Copy, Terminated}
 
 -- a number of eight bytes
 unfoldable pub word : ℕ → List ℕ
@@ -48,10 +48,11 @@ inside bytes other = other_member other ++ member (codes ",\"bytes\":") bytes
 -- The members that say what a rule allows, or what is wrong with the value: the bits or the number that is reserved; the numbers
 -- that are allowed; the offset of the part with the same number; how many bytes there are for entries; the number of which the
 -- value isn't a multiple; the bits of which one has to be zero; how many tables there are; the other field and what it has.
--- Reserved bytes that aren't zero have none, nor has a circle.
+-- Reserved bytes that aren't zero have none, nor has a circle, nor a string without its zero.
 unfoldable pub said : Rule → ℕ → ℕ → List ℕ → List ℕ
 said ReservedBytes n most other = []
 said Cycle n most other = []
+said Terminated n most other = []
 said ReservedBits n most other = member (codes ",\"reserved\":") n
 said ReservedValue n most other = member (codes ",\"reserved\":") n
 said StructureLength n most other = range n n

@@ -77,7 +77,7 @@ fn push_said(
     ensures { OnOk result (text.new.items ≡ text.old.items ++ said rule number most other.now) }
 {
     match rule {
-        Rule::ReservedBytes | Rule::Cycle => Ok(()),
+        Rule::ReservedBytes | Rule::Cycle | Rule::Terminated => Ok(()),
         Rule::ReservedBits => push_member(b",\"reserved\":", number, text),
         Rule::ReservedValue => push_member(b",\"reserved\":", number, text),
         Rule::StructureLength => push_range(number, number, text),

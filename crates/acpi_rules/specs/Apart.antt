@@ -4,9 +4,9 @@ use Rattle.std.specs.Str.{bytes_eq}
 use Rattle.acpi_rules.specs.Demand.{Spot, Demand, differs, differs_with, apart, disjoint}
 use Rattle.acpi_rules.specs.Finding.{Finding}
 use Rattle.acpi_rules.specs.Item.{Item, bytes_in, number_in}
-use Rattle.acpi_rules.specs.Related.{relates}
+use Rattle.acpi_rules.specs.Related.{relates, unique_findings}
 use Rattle.acpi_rules.specs.Rules.{number_of}
-use Rattle.acpi_rules.specs.declared.finding.Rule.TheVariants.{Unique, Overlap, Disjoint}
+use Rattle.acpi_rules.specs.declared.finding.Rule.TheVariants.{Overlap, Disjoint}
 
 -- two parts have the same bytes in the field of which a rule speaks, and in another one
 abbrev pub matches : Spot → Item → Item → Bool
@@ -40,8 +40,8 @@ first_clash demand one (item ∷ items) = if clash demand one item then Some ite
 
 -- A part clashes with one at an offset.
 abbrev pub clash_findings : Demand → List ℕ → Item → Option ℕ → List Finding
-clash_findings differs section item (Some at) = relates Unique section at 0 [] item.field
-clash_findings (differs_with other) section item (Some at) = relates Unique section at 0 [] item.field
+clash_findings differs section item (Some at) = unique_findings section at item.field
+clash_findings (differs_with other) section item (Some at) = unique_findings section at item.field
 clash_findings (apart group last) section item (Some at) = relates Overlap section at 0 last.name item.field
 clash_findings (disjoint size) section item (Some at) = relates Disjoint section at 0 size.name item.field
 clash_findings demand section item before = []

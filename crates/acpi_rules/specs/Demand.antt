@@ -35,6 +35,10 @@ spot_by s = record { offset = s.offset; width = s.width; name = s.name.now }
 -- - multiple: it is a multiple of a number;
 -- - not_all: the bits of a mask aren't all set in it;
 -- - all: the bits of a mask are all set in it;
+-- - terminated: as many bytes as another field says, which begin at the offset that it has, end with a zero;
+-- - terminated_at: as many bytes as it says, which begin at this offset, end with a zero;
+-- - terminated_before: it is the first byte of a string, and one of the bytes from this offset to the one that another field has
+--   is zero, or of those to the part's end if that one is zero;
 -- - points: it is zero, or the offset of a structure of one of these types;
 -- - refers: it is zero, or the number in this field of a structure of this type;
 -- - ends: parts of which each has the offset of the next one there come to an end;
@@ -58,6 +62,9 @@ pub data Demand : Type 0 where
   multiple : ℕ → Demand
   not_all : ℕ → Demand
   all : ℕ → Demand
+  terminated : Spot → Demand
+  terminated_at : ℕ → Demand
+  terminated_before : ℕ → Spot → Demand
   points : List ℕ → Demand
   refers : ℕ → Spot → Demand
   ends : Demand
@@ -82,6 +89,9 @@ demand_by (demands.Between from to) = between from to
 demand_by (demands.Multiple unit) = multiple unit
 demand_by (demands.NotAll mask) = not_all mask
 demand_by (demands.All mask) = all mask
+demand_by (demands.Terminated size) = terminated (spot_by size)
+demand_by (demands.TerminatedAt start) = terminated_at start
+demand_by (demands.TerminatedBefore start end) = terminated_before start (spot_by end)
 demand_by (demands.Points types) = points types.now
 demand_by (demands.Refers kind spot) = refers kind (spot_by spot)
 demand_by demands.Ends = ends

@@ -6,6 +6,7 @@ pub mod Demand
 pub mod Item
 pub mod Related
 pub mod Apart
+pub mod Terminated
 pub mod Order
 pub mod Matrix
 pub mod Reference

@@ -11,7 +11,7 @@ use Rattle.acpi_rules.specs.declared.finding.Rule.{Rule}
 use Rattle.acpi_rules.specs.declared.finding.Rule.TheVariants.{ReservedBytes, ReservedBits, ReservedValue, StructureLength, Range}
 use Rattle.acpi_rules.specs.declared.finding.Rule.TheVariants.{Unique, Overlap, Disjoint, AtMost, NoOverflow, Inside, Count, Pair}
 use Rattle.acpi_rules.specs.declared.finding.Rule.TheVariants.{Required, Needs, Multiple, NotAll, Reference, Cycle, Distance}
-use Rattle.acpi_rules.specs.declared.finding.Rule.TheVariants.{Present, Defined, Below, Single, Copy}
+use Rattle.acpi_rules.specs.declared.finding.Rule.TheVariants.{Present, Defined, Below, Single, Copy, Terminated}
 
 -- the tables that ACPI 6.5 defines; another standard defines each other table
 abbrev pub standard_tables : List (List ℕ)
@@ -51,6 +51,7 @@ rule_name Required = codes "required"
 rule_name Needs = codes "needs"
 rule_name Multiple = codes "multiple"
 rule_name NotAll = codes "not-all"
+rule_name Terminated = codes "terminated"
 rule_name Reference = codes "reference"
 rule_name Cycle = codes "cycle"
 rule_name Distance = codes "distance"
@@ -118,6 +119,10 @@ lacks_text = codes " has to lack one of the bits "
 abbrev pub not_all_text : ℕ → List ℕ
 not_all_text bits = lacks_text ++ hex_text bits
 
+-- that a string doesn't end with a zero
+unfoldable pub endless_text : List ℕ
+endless_text = codes ": the string doesn't end with a zero"
+
 -- what a finding on two fields says of the bytes of its field
 abbrev pub pair_text : Rule → ℕ → ℕ → List ℕ → List ℕ
 pair_text Pair number most other = codes " isn't " ++ label other ++ codes ", which is " ++ decimal number
@@ -162,6 +167,7 @@ relates_text Inside number most other = outside_text most other
 relates_text Count number most other = room_text most
 relates_text Multiple number most other = codes " isn't n * " ++ decimal number
 relates_text NotAll number most other = not_all_text number
+relates_text Terminated number most other = endless_text
 relates_text Reference number most other = codes " isn't the " ++ label other ++ target_text
 relates_text Cycle number most other = codes " leads to a circle"
 relates_text Present number most other = absent_text other

@@ -3,11 +3,12 @@
 use Rattle.std.specs.Prelude.{ℕ, ◌+◌, ◌-◌, ◌*◌, ◌%◌, ◌^◌, ◌==◌, nat_le, nat_lt, ◌&&◌, ◌||◌, not, if◌then◌else◌}
 use Rattle.std.specs.Prelude.{bit_and, bit_or, List, [], length}
 use Rattle.acpi_rules.specs.Demand.{Spot, Demand, at_most, addresses, blocks, inside, counts, agrees, needed, needs, between}
-use Rattle.acpi_rules.specs.Demand.{multiple, not_all, all}
+use Rattle.acpi_rules.specs.Demand.{multiple, not_all, all, terminated, terminated_at, terminated_before}
 use Rattle.acpi_rules.specs.Finding.{Finding}
 use Rattle.acpi_rules.specs.Item.{Item, has, number_in}
 use Rattle.acpi_rules.specs.Related.{relates}
 use Rattle.acpi_rules.specs.Rules.{number_of}
+use Rattle.acpi_rules.specs.Terminated.{terminated_findings, terminated_at_findings, terminated_before_findings}
 use Rattle.acpi_rules.specs.declared.finding.Rule.TheVariants.{AtMost, NoOverflow, Inside, Count, Pair, Required, Needs}
 use Rattle.acpi_rules.specs.declared.finding.Rule.TheVariants.{Range, Multiple, NotAll}
 
@@ -82,6 +83,7 @@ all_findings section mask item =
     if bit_and (number_of item.field) mask == mask then []
     else relates Range section (bit_or (number_of item.field) mask) (bit_or (number_of item.field) mask) [] item.field
 
+-- what a part breaks of a demand on its numbers or a string
 abbrev pub number_findings : Demand → List ℕ → Item → List Finding
 number_findings (at_most other) section item = order_findings section other item
 number_findings (addresses size) section item = address_findings section size item
@@ -95,4 +97,7 @@ number_findings (between from to) section item = between_findings section from t
 number_findings (multiple unit) section item = multiple_findings section unit item
 number_findings (not_all mask) section item = not_all_findings section mask item
 number_findings (all mask) section item = all_findings section mask item
+number_findings (terminated size) section item = terminated_findings section size item
+number_findings (terminated_at start) section item = terminated_at_findings section start item
+number_findings (terminated_before start end) section item = terminated_before_findings section start end item
 number_findings demand section item = []

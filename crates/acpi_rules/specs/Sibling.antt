@@ -3,8 +3,7 @@ use Rattle.std.specs.Prelude.{ℕ, nat_le, ◌&&◌, Bool, if◌then◌else◌, 
 use Rattle.std.specs.Str.{bytes_eq}
 use Rattle.acpi_rules.specs.Finding.{Finding}
 use Rattle.acpi_rules.specs.Item.{Item}
-use Rattle.acpi_rules.specs.Related.{relates}
-use Rattle.acpi_rules.specs.declared.finding.Rule.TheVariants.{Unique}
+use Rattle.acpi_rules.specs.Related.{unique_findings}
 
 -- where the structure begins that has the byte at an offset: at the last of these offsets that isn't after it
 abbrev pub own_start : ℕ → List ℕ → ℕ → ℕ
@@ -23,7 +22,7 @@ first_same own one (item ∷ items) = if is_same own one item then Some item.fie
 -- A part is the same as one at an offset.
 abbrev pub same_findings : List ℕ → Item → Option ℕ → List Finding
 same_findings section item None = []
-same_findings section item (Some at) = relates Unique section at 0 [] item.field
+same_findings section item (Some at) = unique_findings section at item.field
 
 -- No part is the same as one before it in its structure: the parts before, and those that come. The structures begin at these
 -- offsets.

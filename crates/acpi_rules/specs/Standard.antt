@@ -12,7 +12,7 @@ use Rattle.acpi_rules.specs.declared.demand.When.{When}
 use Rattle.acpi_rules.specs.declared.demand.When.TheVariants.{Always, Is, Not}
 use Rattle.acpi_rules.specs.Demand.{Spot, Demand, Relation, differs, differs_with, apart, disjoint, at_most, addresses, blocks}
 use Rattle.acpi_rules.specs.Demand.{counts, agrees, needed, needs, between, inside, multiple, not_all, all, points, refers, ends}
-use Rattle.acpi_rules.specs.Demand.{differs_in, distances, includes}
+use Rattle.acpi_rules.specs.Demand.{differs_in, distances, includes, terminated, terminated_at, terminated_before}
 use Rattle.acpi_rules.specs.Field.{table_fields}
 use Rattle.acpi_rules.specs.Finding.{Finding}
 use Rattle.acpi_rules.specs.Relation.{relations_findings}
@@ -408,6 +408,23 @@ sized =
     ∷ rule "HEST" (Kind 10) Always (spot 33 1 "Length") (between 28 28) "ACPI 6.5, 18.3.2.9"
     ∷ []
 
+-- Strings that end with a zero.
+unfoldable pub strings : List Relation
+strings =
+    -- The numbers of their bytes, which count the zero, stand in fields.
+    rule "DBG2" Each Always (spot 6 2 "NamespaceStringOffset") (terminated (spot 4 2 "NamespaceStringLength")) "Microsoft DBG2"
+    ∷ rule "SPCR" Whole Always (spot 86 2 "NamespaceStringOffset") (terminated (spot 84 2 "NamespaceStringLength"))
+    "Microsoft SPCR"
+    ∷ rule "RHCT" (Kind 0) Always (spot 6 2 "ISA string length") (terminated_at 8) "ACPI 6.6"
+    -- They end before the end of their structure or table, or before what follows them in it.
+    ∷ rule "ECDT" Whole Always (spot 65 1 "EC_ID") (terminated_before 65 (spot 4 4 "Length")) "ACPI 6.5, 5.2.15"
+    ∷ rule "DMAR" (Kind 4) Always (spot 8 1 "ACPI Object Name") (terminated_before 8 (spot 2 2 "Length")) "VT-d 4.1, 8.7"
+    ∷ rule "IORT" (Kind 1) Always (spot 29 1 "Device Object Name") (terminated_before 29 (spot 12 4 "Reference to ID Array"))
+    "Arm DEN0049E.d"
+    ∷ rule "RIMT" (Kind 2) Always (spot 12 1 "Device Object Name") (terminated_before 12 (spot 8 2 "Offset of Mappings"))
+    "RISC-V RIMT"
+    ∷ []
+
 -- Fields that are those of other structures of a table.
 unfoldable pub referred : List Relation
 referred =
@@ -510,6 +527,7 @@ standard_findings walk bytes =
     ++ relations_findings aligned walk bytes
     ++ relations_findings bounded walk bytes
     ++ relations_findings sized walk bytes
+    ++ relations_findings strings walk bytes
     ++ relations_findings referred walk bytes
     ++ relations_findings placed walk bytes
     ++ relations_findings included walk bytes

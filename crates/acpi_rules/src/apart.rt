@@ -9,7 +9,7 @@ ghost use Rattle.acpi_rules.specs.Item.{item_by};
 use crate::demand::{Demand, Spot};
 use crate::finding::{Finding, Rule};
 use crate::item::{Item, bytes_in, number_in};
-use crate::related::{Said, add_related};
+use crate::related::{Said, add_related, add_unique};
 use crate::rules::number_of;
 use std::alloc::AllocError;
 
@@ -59,6 +59,9 @@ fn clash(demand: &Demand, a: &Item<'_>, b: &Item<'_>) -> bool
         | Demand::Multiple(_)
         | Demand::NotAll(_)
         | Demand::All(_)
+        | Demand::Terminated(_)
+        | Demand::TerminatedAt(_)
+        | Demand::TerminatedBefore(_, _)
         | Demand::Points(_)
         | Demand::Refers(_, _)
         | Demand::Ends
@@ -92,13 +95,7 @@ fn check_clash<'a>(
 {
     match (*demand, before) {
         (Demand::Differs | Demand::DiffersWith(_), Some(at)) => {
-            let said = Said {
-                section,
-                number: at as u64,
-                most: 0,
-                other: "",
-            };
-            add_related(Rule::Unique, &said, &item.field, findings)
+            add_unique(section, at, &item.field, findings)
         }
         (Demand::Apart(_, last), Some(at)) => {
             let said = Said {

@@ -87,6 +87,13 @@ pub enum Demand {
     NotAll(u64),
     /// The bits of this mask are all set in the field.
     All(u64),
+    /// As many bytes as this one says, which begin at the offset that the field has, end with a zero.
+    Terminated(Spot),
+    /// As many bytes as the field says, which begin at this offset, end with a zero.
+    TerminatedAt(usize),
+    /// The field is the first byte of a string. One of the bytes from this offset to the one that the other field has is zero, or
+    /// of those to the part's end if that one is zero.
+    TerminatedBefore(usize, Spot),
     /// The field is zero, or the offset of a structure of one of these types.
     Points(&'static [usize]),
     /// The field is zero, or the number in this one of a structure of this type.

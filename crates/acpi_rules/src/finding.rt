@@ -41,6 +41,8 @@ pub enum Rule {
     Multiple,
     /// Some bits aren't all set. The number has these bits.
     NotAll,
+    /// A string ends with a zero.
+    Terminated,
     /// A number is the offset of a structure of a type, or that of a field of one.
     Reference,
     /// Structures of which each names the next one come to an end.

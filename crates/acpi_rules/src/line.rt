@@ -3,7 +3,7 @@
 ghost use Rattle.std.specs.Prelude.{◌≡◌, ◌++◌, OnOk, string_bytes};
 ghost use Rattle.acpi_rules.specs.Finding.{noted};
 ghost use Rattle.acpi_rules.specs.Line.{standard_tables, contains, severity, rule_name, hex_text, one_text, least_text};
-ghost use Rattle.acpi_rules.specs.Line.{misfit_text, bytes_text, room_text, target_text, not_all_text};
+ghost use Rattle.acpi_rules.specs.Line.{misfit_text, bytes_text, room_text, target_text, not_all_text, endless_text};
 ghost use Rattle.acpi_rules.specs.Line.{lacks_text, with_text, after_text, outside_text};
 ghost use Rattle.acpi_rules.specs.Line.{reserved_text, range_text, pair_text, own_text, below_text, limit_text};
 ghost use Rattle.acpi_rules.specs.Line.{machine_text, tables_text, absent_text, relates_text};
@@ -79,6 +79,7 @@ impl Rule {
             Rule::Needs => "needs",
             Rule::Multiple => "multiple",
             Rule::NotAll => "not-all",
+            Rule::Terminated => "terminated",
             Rule::Reference => "reference",
             Rule::Cycle => "cycle",
             Rule::Distance => "distance",
@@ -205,6 +206,14 @@ fn push_not_all(bits: u64, text: &mut String) -> Result<(), AllocError>
 {
     push_lacks(text)?;
     push_hex(bits, text)
+}
+
+// Adds that a string doesn't end with a zero.
+#[tactic(auto, unfolding(crate::specs::Line::endless_text))]
+fn push_endless(text: &mut String) -> Result<(), AllocError>
+    ensures { OnOk result (string_bytes text.new ≡ string_bytes text.old ++ endless_text) }
+{
+    text.push_str(": the string doesn't end with a zero")
 }
 
 // Adds that a number is reserved.
@@ -343,6 +352,7 @@ fn push_relates(
             text.push_str(Buffer::new().format(number))
         }
         Rule::NotAll => push_not_all(number, text),
+        Rule::Terminated => push_endless(text),
         Rule::Reference => {
             text.push_str(" isn't the ")?;
             push_label(other, text)?;

@@ -14,6 +14,7 @@ use crate::finding::{Finding, Rule};
 use crate::item::{Item, has, number_in};
 use crate::related::{Said, add_related};
 use crate::rules::number_of;
+use crate::terminated::{check_terminated, check_terminated_at, check_terminated_before};
 use std::alloc::AllocError;
 
 // Adds that a number is greater than that of another field.
@@ -358,7 +359,7 @@ fn check_all<'a>(
     add_related(Rule::Range, &said, &item.field, findings)
 }
 
-// Adds what a part breaks of a demand on its numbers.
+// Adds what a part breaks of a demand on its numbers or a string.
 fn check_numbers<'a>(
     demand: &Demand,
     section: &'static str,
@@ -381,6 +382,11 @@ fn check_numbers<'a>(
         Demand::Multiple(unit) => check_multiple(section, unit, item, findings),
         Demand::NotAll(mask) => check_not_all(section, mask, item, findings),
         Demand::All(mask) => check_all(section, mask, item, findings),
+        Demand::Terminated(size) => check_terminated(section, &size, item, findings),
+        Demand::TerminatedAt(start) => check_terminated_at(section, start, item, findings),
+        Demand::TerminatedBefore(start, end) => {
+            check_terminated_before(section, start, &end, item, findings)
+        }
         Demand::Differs
         | Demand::DiffersWith(_)
         | Demand::DiffersIn(_)
@@ -394,7 +400,7 @@ fn check_numbers<'a>(
     }
 }
 
-/// Adds what parts break of a demand on their numbers.
+/// Adds what parts break of a demand on their numbers or strings.
 pub fn check_each<'a>(
     demand: &Demand,
     section: &'static str,

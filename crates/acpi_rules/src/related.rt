@@ -3,7 +3,7 @@
 ghost use Rattle.std.specs.Prelude.{◌≡◌, ◌++◌, map, OnOk};
 ghost use Rattle.acpi_rules.specs.Field.{seen};
 ghost use Rattle.acpi_rules.specs.Finding.{noted};
-ghost use Rattle.acpi_rules.specs.Related.{relates};
+ghost use Rattle.acpi_rules.specs.Related.{relates, unique_findings};
 
 use crate::field::Field;
 use crate::finding::{Finding, Rule};
@@ -39,4 +39,23 @@ pub fn add_related<'a>(
         other: said.other,
     })?;
     Ok(())
+}
+
+/// Adds that a field has the same bytes as that of a part before it, which is at an offset.
+pub fn add_unique<'a>(
+    section: &'static str,
+    at: usize,
+    field: &Field<'a>,
+    findings: &mut Vec<Finding<'a>>,
+) -> Result<(), AllocError>
+    ensures { OnOk result (map noted findings.new.items ≡ map noted findings.old.items
+        ++ unique_findings section.now at (seen field.now)) }
+{
+    let said = Said {
+        section,
+        number: at as u64,
+        most: 0,
+        other: "",
+    };
+    add_related(Rule::Unique, &said, field, findings)
 }

@@ -56,7 +56,10 @@ fn check_demand<'a>(
         | Demand::Between(_, _)
         | Demand::Multiple(_)
         | Demand::NotAll(_)
-        | Demand::All(_) => check_each(demand, section, items, findings),
+        | Demand::All(_)
+        | Demand::Terminated(_)
+        | Demand::TerminatedAt(_)
+        | Demand::TerminatedBefore(_, _) => check_each(demand, section, items, findings),
     }
 }
 

@@ -5,9 +5,9 @@ ghost use Rattle.acpi_rules.specs.Finding.{noted};
 ghost use Rattle.acpi_rules.specs.Item.{item_by};
 ghost use Rattle.acpi_rules.specs.Sibling.{own_start, is_same, first_same, same_findings, sibling_findings};
 
-use crate::finding::{Finding, Rule};
+use crate::finding::Finding;
 use crate::item::Item;
-use crate::related::{Said, add_related};
+use crate::related::add_unique;
 use std::alloc::AllocError;
 
 // Returns where the structure begins that has the byte at an offset: at the last of these offsets that isn't after it.
@@ -53,15 +53,7 @@ fn check_same<'a>(
         ++ same_findings section.now (item_by item.now) before) }
 {
     match before {
-        Some(at) => {
-            let said = Said {
-                section,
-                number: at as u64,
-                most: 0,
-                other: "",
-            };
-            add_related(Rule::Unique, &said, &item.field, findings)
-        }
+        Some(at) => add_unique(section, at, &item.field, findings),
         None => Ok(()),
     }
 }

@@ -1,4 +1,4 @@
-//! The numbers that the standard allows, and the findings of a table.
+//! The rules of the standard on several fields, and the findings of a table.
 
 ghost use Rattle.std.specs.Prelude.{◌≡◌, ◌++◌, map, IfOk, OnOk};
 ghost use Rattle.acpi_rules.specs.Field.{seen};
@@ -6,175 +6,28 @@ ghost use Rattle.acpi_rules.specs.Finding.{noted};
 ghost use Rattle.acpi_rules.specs.Rules.{fields_findings};
 ghost use Rattle.acpi_rules.specs.Relation.{relations_findings};
 ghost use Rattle.acpi_rules.specs.Standard.{allowed_numbers, ranges, numbered, different, ordered, counted, paired, aligned};
-ghost use Rattle.acpi_rules.specs.Standard.{bounded, sized, referred, placed, included, standard_findings, table_findings};
+ghost use Rattle.acpi_rules.specs.Standard.{bounded, sized, strings, referred, placed, included};
+ghost use Rattle.acpi_rules.specs.Standard.{standard_findings, table_findings};
 
-use crate::allowed::Allowed;
 use crate::demand::Demand::{
     Addresses, Agrees, All, Apart, AtMost, Between, Blocks, Counts, Differs, DiffersIn,
     DiffersWith, Disjoint, Distances, Ends, Includes, Inside, Multiple, Needed, Needs, NotAll,
-    Points, Refers,
+    Points, Refers, Terminated, TerminatedAt, TerminatedBefore,
 };
 use crate::demand::Of::{Each, Entries, Kind, Whole};
 use crate::demand::When::{Always, Is, Not};
 use crate::demand::{Among, Relation, Spot};
 use crate::field::Field;
 use crate::finding::Finding;
-use crate::limit::Limit;
+use crate::numbers::{ALLOWED, RANGES};
 use crate::relation::check_relations;
 use crate::rules::fields_findings;
 use crate::table::fields_of;
 use acpi_base::walk::Place::{Byte, DWord, Nowhere, Word};
-use acpi_base::walk::{Place, Walk};
+use acpi_base::walk::Walk;
 use acpi_text::form::Count::Field as FieldCount;
 use acpi_text::form::TableForm;
 use std::alloc::{AllocError, Global};
-
-// Numbers that are allowed, although a form has no name for them.
-#[rattlefmt::skip]
-const ALLOWED: [Allowed; 13] = [
-    // Address spaces of an OEM (ACPI 6.5, 5.2.3.2).
-    Allowed { table: "", offset: 0, name: "Address Space ID", from: 192, to: 255 },
-    // INT_MODEL of ACPI 1.0 (5.2.9).
-    Allowed { table: "FACP", offset: 44, name: "Reserved", from: 1, to: 1 },
-    // The lengths of a GICC in ACPI 5.0 to 6.4, and of a Multiprocessor Wakeup in ACPI 6.6. A row has no type of structure, so
-    // each structure of a MADT may have these lengths.
-    Allowed { table: "APIC", offset: 0, name: "Length", from: 40, to: 40 },
-    Allowed { table: "APIC", offset: 0, name: "Length", from: 76, to: 76 },
-    Allowed { table: "APIC", offset: 0, name: "Length", from: 80, to: 80 },
-    Allowed { table: "APIC", offset: 0, name: "Length", from: 24, to: 24 },
-    // A cache of ACPI 6.2 and 6.3.
-    Allowed { table: "PPTT", offset: 0, name: "Length", from: 24, to: 24 },
-    // A table without a PM timer.
-    Allowed { table: "FACP", offset: 91, name: "PM_TMR_LEN", from: 0, to: 0 },
-    // Features of a vendor (5.2.21).
-    Allowed { table: "RAS2", offset: 0, name: "Feature Type", from: 128, to: 255 },
-    // Methods of vendors, and methods of Arm and AMD (TCG ACPI Specification 1.4, 8).
-    Allowed { table: "TPM2", offset: 0, name: "Start Method", from: 3, to: 5 },
-    Allowed { table: "TPM2", offset: 0, name: "Start Method", from: 9, to: 11 },
-    Allowed { table: "TPM2", offset: 0, name: "Start Method", from: 13, to: 13 },
-    Allowed { table: "TPM2", offset: 0, name: "Start Method", from: 15, to: 15 },
-];
-
-// The ranges of numbers in the fields of tables.
-#[rattlefmt::skip]
-const RANGES: [Limit; 29] = [
-    Limit {
-        table: "FACP", offset: 4, name: "Length", from: 116, to: 116,
-        place: Place::Byte(8), mask: 255, is: 1, section: "ACPI 6.5, 5.2.9",
-    },
-    Limit {
-        table: "FACP", offset: 4, name: "Length", from: 244, to: 244,
-        place: Place::Byte(8), mask: 255, is: 3, section: "ACPI 6.5, 5.2.9",
-    },
-    Limit {
-        table: "FACP", offset: 4, name: "Length", from: 244, to: 244,
-        place: Place::Byte(8), mask: 255, is: 4, section: "ACPI 6.5, 5.2.9",
-    },
-    Limit {
-        table: "FACP", offset: 4, name: "Length", from: 268, to: 268,
-        place: Place::Byte(8), mask: 255, is: 5, section: "ACPI 6.5, 5.2.9",
-    },
-    Limit {
-        table: "FACP", offset: 4, name: "Length", from: 276, to: 276,
-        place: Place::Byte(8), mask: 255, is: 6, section: "ACPI 6.5, 5.2.9",
-    },
-    Limit {
-        table: "FACP", offset: 88, name: "PM1_EVT_LEN", from: 4, to: 255,
-        place: Place::DWord(112), mask: 0x10_0000, is: 0, section: "ACPI 6.5, 5.2.9",
-    },
-    Limit {
-        table: "FACP", offset: 89, name: "PM1_CNT_LEN", from: 2, to: 255,
-        place: Place::DWord(112), mask: 0x10_0000, is: 0, section: "ACPI 6.5, 5.2.9",
-    },
-    Limit {
-        table: "FACP", offset: 91, name: "PM_TMR_LEN", from: 4, to: 4,
-        place: Place::DWord(112), mask: 0x10_0000, is: 0, section: "ACPI 6.5, 5.2.9",
-    },
-    Limit {
-        table: "BERT", offset: 4, name: "Length", from: 48, to: 48,
-        place: Place::Byte(8), mask: 255, is: 1, section: "ACPI 6.5, 18.3.1",
-    },
-    Limit {
-        table: "BGRT", offset: 4, name: "Length", from: 56, to: 56,
-        place: Place::Byte(8), mask: 255, is: 1, section: "ACPI 6.5, 5.2.23",
-    },
-    Limit {
-        table: "CCEL", offset: 4, name: "Length", from: 56, to: 56,
-        place: Place::Byte(8), mask: 255, is: 1, section: "ACPI 6.5, 5.2.34",
-    },
-    Limit {
-        table: "SBST", offset: 4, name: "Length", from: 48, to: 48,
-        place: Place::Byte(8), mask: 255, is: 1, section: "ACPI 6.5, 5.2.14",
-    },
-    Limit {
-        table: "HPET", offset: 4, name: "Length", from: 56, to: 56,
-        place: Place::Byte(8), mask: 255, is: 1, section: "IA-PC HPET 1.0a, 3.2.4",
-    },
-    Limit {
-        table: "WAET", offset: 4, name: "Length", from: 40, to: 40,
-        place: Place::Byte(8), mask: 255, is: 1, section: "WAET 1.2",
-    },
-    Limit {
-        table: "WSMT", offset: 4, name: "Length", from: 40, to: 40,
-        place: Place::Byte(8), mask: 255, is: 1, section: "WSMT 1.0",
-    },
-    Limit {
-        table: "BOOT", offset: 4, name: "Length", from: 40, to: 40,
-        place: Place::Byte(8), mask: 255, is: 1, section: "BOOT 2.1",
-    },
-    Limit {
-        table: "DBGP", offset: 4, name: "Length", from: 52, to: 52,
-        place: Place::Byte(8), mask: 255, is: 1, section: "DBGP 1.0",
-    },
-    Limit {
-        table: "SRAT", offset: 36, name: "Reserved", from: 1, to: 1,
-        place: Place::Nowhere, mask: 0, is: 0, section: "ACPI 6.5, 5.2.16",
-    },
-    Limit {
-        table: "XSDT", offset: 0, name: "Entry", from: 1, to: 0xffff_ffff_ffff_ffff,
-        place: Place::Nowhere, mask: 0, is: 0, section: "ACPI 6.5, 5.2.8",
-    },
-    Limit {
-        table: "RSDT", offset: 0, name: "Entry", from: 1, to: 0xffff_ffff,
-        place: Place::Nowhere, mask: 0, is: 0, section: "ACPI 6.5, 5.2.7",
-    },
-    Limit {
-        table: "APIC", offset: 0, name: "I/O APIC Address", from: 1, to: 0xffff_ffff,
-        place: Place::Nowhere, mask: 0, is: 0, section: "ACPI 6.5, 5.2.12.3",
-    },
-    Limit {
-        table: "APIC", offset: 0, name: "Source", from: 0, to: 15,
-        place: Place::Nowhere, mask: 0, is: 0, section: "ACPI 6.5, 5.2.12.5",
-    },
-    Limit {
-        table: "HEST", offset: 0, name: "Number of Records to Pre-allocate", from: 1, to: 0xffff_ffff,
-        place: Place::Nowhere, mask: 0, is: 0, section: "ACPI 6.5, 18.3.2",
-    },
-    Limit {
-        table: "HEST", offset: 0, name: "Max Sections Per Record", from: 1, to: 0xffff_ffff,
-        place: Place::Nowhere, mask: 0, is: 0, section: "ACPI 6.5, 18.3.2",
-    },
-    Limit {
-        table: "HMAT", offset: 0, name: "Entry Base Unit", from: 1, to: 0xffff_ffff_ffff_ffff,
-        place: Place::Nowhere, mask: 0, is: 0, section: "ACPI 6.5, 5.2.28.4",
-    },
-    Limit {
-        table: "GTDT", offset: 0, name: "GT Block Timer Count", from: 0, to: 8,
-        place: Place::Nowhere, mask: 0, is: 0, section: "ACPI 6.5, 5.2.25.1",
-    },
-    Limit {
-        table: "GTDT", offset: 0, name: "GT Frame Number", from: 0, to: 7,
-        place: Place::Nowhere, mask: 0, is: 0, section: "ACPI 6.5, 5.2.25.1",
-    },
-    Limit {
-        table: "HPET", offset: 44, name: "Address", from: 1, to: 0xffff_ffff_ffff_ffff,
-        place: Place::Nowhere, mask: 0, is: 0, section: "IA-PC HPET 1.0a, 3.2.4",
-    },
-    Limit {
-        table: "MCFG", offset: 0, name: "Base Address", from: 1, to: 0xffff_ffff_ffff_ffff,
-        place: Place::Nowhere, mask: 0, is: 0, section: "PCI Firmware 3.3, 4.1.2",
-    },
-];
 
 // A field of a part of a table.
 macro_rules! spot {
@@ -513,6 +366,25 @@ const SIZED: [Relation; 13] = [
     rule!("HEST", Kind(10), Always, spot!(33, 1, "Length"), Between(28, 28), "ACPI 6.5, 18.3.2.9"),
 ];
 
+// Strings that end with a zero.
+#[rattlefmt::skip]
+const STRINGS: [Relation; 7] = [
+    // The numbers of their bytes, which count the zero, stand in fields.
+    rule!("DBG2", Each, Always, spot!(6, 2, "NamespaceStringOffset"), Terminated(spot!(4, 2, "NamespaceStringLength")),
+        "Microsoft DBG2"),
+    rule!("SPCR", Whole, Always, spot!(86, 2, "NamespaceStringOffset"), Terminated(spot!(84, 2, "NamespaceStringLength")),
+        "Microsoft SPCR"),
+    rule!("RHCT", Kind(0), Always, spot!(6, 2, "ISA string length"), TerminatedAt(8), "ACPI 6.6"),
+    // They end before the end of their structure or table, or before what follows them in it.
+    rule!("ECDT", Whole, Always, spot!(65, 1, "EC_ID"), TerminatedBefore(65, spot!(4, 4, "Length")), "ACPI 6.5, 5.2.15"),
+    rule!("DMAR", Kind(4), Always, spot!(8, 1, "ACPI Object Name"), TerminatedBefore(8, spot!(2, 2, "Length")),
+        "VT-d 4.1, 8.7"),
+    rule!("IORT", Kind(1), Always, spot!(29, 1, "Device Object Name"),
+        TerminatedBefore(29, spot!(12, 4, "Reference to ID Array")), "Arm DEN0049E.d"),
+    rule!("RIMT", Kind(2), Always, spot!(12, 1, "Device Object Name"),
+        TerminatedBefore(12, spot!(8, 2, "Offset of Mappings")), "RISC-V RIMT"),
+];
+
 /// The rules on fields that are those of other structures of a table.
 #[rattlefmt::skip]
 pub const REFERRED: [Relation; 21] = [
@@ -714,6 +586,19 @@ fn check_sized<'a>(
     check_relations(alloc, &SIZED, walk, bytes, findings)
 }
 
+#[tactic(auto, unfolding(crate::specs::Standard::strings))]
+fn check_strings<'a>(
+    alloc: Global,
+    walk: Option<Walk>,
+    bytes: &'a [u8],
+    findings: &mut Vec<Finding<'a>>,
+) -> Result<(), AllocError>
+    ensures { OnOk result (map noted findings.new.items
+        ≡ map noted findings.old.items ++ relations_findings strings walk bytes.now) }
+{
+    check_relations(alloc, &STRINGS, walk, bytes, findings)
+}
+
 #[tactic(auto, unfolding(crate::specs::Standard::referred))]
 fn check_referred<'a>(
     alloc: Global,
@@ -773,6 +658,7 @@ fn check_standard<'a>(
     check_aligned(alloc, walk, bytes, findings)?;
     check_bounded(alloc, walk, bytes, findings)?;
     check_sized(alloc, walk, bytes, findings)?;
+    check_strings(alloc, walk, bytes, findings)?;
     check_referred(alloc, walk, bytes, findings)?;
     check_placed(alloc, walk, bytes, findings)?;
     check_included(alloc, walk, bytes, findings)
