@@ -166,6 +166,8 @@ def demand(text, named):
         return f"as many bytes as it says, which begin at offset {arguments[0]}, end with a zero"
     if kind == "TerminatedBefore":
         end = spot(arguments[1])[2]
+        if end == "Length":
+            return "the string that begins there has a zero before the end of the structure or the table"
         return f"the string that begins there has a zero before the offset in {end}, or before the end if that is 0"
     if kind == "Points":
         return f"is zero, or the offset of a structure of {types(arguments[0].strip('&[]').split(', '))}"
