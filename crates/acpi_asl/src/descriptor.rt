@@ -7,7 +7,7 @@ ghost use Rattle.acpi_asl.specs.Descriptor.{words};
 use crate::word::REGION_SPACES;
 
 /// The kinds of words that bits stand for.
-#[derive(Clone, Copy, Debug)]
+#[derive(Clone, Copy)]
 pub enum WordKind {
     Decode,
     Mode,
@@ -48,7 +48,7 @@ pub enum WordKind {
 }
 
 /// Bits of the byte at an offset.
-#[derive(Clone, Copy, Debug)]
+#[derive(Clone, Copy)]
 pub struct Bits {
     pub offset: usize,
     /// The number of the lowest.
@@ -58,7 +58,7 @@ pub struct Bits {
 }
 
 /// An offset in a descriptor.
-#[derive(Clone, Copy, Debug)]
+#[derive(Clone, Copy)]
 pub enum Offset {
     At(u8),
     /// The offset that the two bytes at an offset are.
@@ -72,7 +72,7 @@ pub enum Offset {
 }
 
 /// An argument of a macro.
-#[derive(Clone, Copy, Debug)]
+#[derive(Clone, Copy)]
 pub enum Part {
     Word(Bits, WordKind),
     /// The same, but from 0x80 on, where vendors define the numbers, the number that the bits are.
@@ -96,7 +96,7 @@ pub enum Part {
 }
 
 /// What holds of each descriptor that a macro makes.
-#[derive(Clone, Copy, Debug)]
+#[derive(Clone, Copy)]
 pub enum Check {
     /// Bits are this number.
     Is(Bits, u8),
@@ -117,7 +117,7 @@ pub enum Check {
 }
 
 /// The list in braces.
-#[derive(Clone, Copy, Debug)]
+#[derive(Clone, Copy)]
 pub enum Braces {
     Absent,
     /// The bits that are set in the bytes at 1 and 2.

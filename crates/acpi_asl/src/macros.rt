@@ -10,7 +10,7 @@ use crate::descriptor::{Bits, Braces, Check, Offset, Part, WordKind};
 
 /// The descriptors that have macros: those of ACPI 6.5, 6.4. `I2cBus2`, `SpiBus2` and `UartBus2` are the descriptors of revision
 /// 2, which say whether the connection is shared.
-#[derive(Clone, Copy, Debug)]
+#[derive(Clone, Copy)]
 pub enum Descriptor {
     IrqNoFlags,
     Irq,

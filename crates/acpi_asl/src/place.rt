@@ -13,7 +13,7 @@ use acpi_terms_text::path::last_segment;
 use std::alloc::AllocError;
 
 /// What stands in the braces of a term.
-#[derive(Clone, Copy, Debug, PartialEq, Eq)]
+#[derive(Clone, Copy, PartialEq, Eq)]
 pub enum Body {
     /// The term has no braces.
     Absent,
@@ -24,7 +24,7 @@ pub enum Body {
 }
 
 /// Where a term stands: in the parentheses of another, or in its braces.
-#[derive(Clone, Copy, Debug)]
+#[derive(Clone, Copy)]
 pub struct Place {
     /// How many arguments in the parentheses begin here.
     pub arguments: usize,

@@ -87,7 +87,7 @@ pub fn operator_word(op: Op) -> &'static str
 }
 
 /// The kinds of words that stand for numbers (ACPI 6.5, 19.2.7).
-#[derive(Clone, Copy, Debug)]
+#[derive(Clone, Copy)]
 pub enum Keyword {
     AccessType,
     AccessAttribute,

@@ -5,7 +5,7 @@ ghost use Rattle.std.specs.Option.{option_map};
 ghost use Rattle.acpi_c_calls.specs.Fault.{number_of, words, first_faults, later_faults, fault_among, fault_of, words_of};
 
 /// What is wrong. A number is never given to another fault.
-#[derive(Clone, Copy, Debug, PartialEq, Eq)]
+#[derive(Clone, Copy)]
 pub enum Fault {
     Memory,
     Buffer,

@@ -13,7 +13,7 @@ use std::alloc::{AllocError, AllocFailed};
 
 /// What is wrong, and where: the offset of a byte, the number of a line from 1, or the physical address of a table. The place
 /// is 0 where a fault has none.
-#[derive(Clone, Copy, Debug, PartialEq)]
+#[derive(Clone, Copy)]
 pub struct Refused {
     pub fault: Fault,
     pub place: u64,

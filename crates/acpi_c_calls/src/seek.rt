@@ -9,7 +9,7 @@ use acpi_text::form::{Choice, Part};
 use acpi_text::part::{between, find_choice, number_at, size_between};
 
 /// What a search for a field found.
-#[derive(Clone, Copy, Debug, PartialEq)]
+#[derive(Clone, Copy)]
 pub enum Sought {
     /// The field: its offset in the structure, and its width in bytes.
     Found(usize, usize),

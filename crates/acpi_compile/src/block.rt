@@ -16,8 +16,10 @@ use crate::node::{Node, list_of, word_node};
 use crate::note::after;
 use crate::number::decimal;
 use crate::squeeze::{begins_note, ends_in_comment, has_block, squeezed, word_at, word_len};
+use crate::start::Context;
 use crate::stated::{first_use, last, stated};
-use crate::term::{Context, statements};
+use crate::term::statements;
+use crate::word::is_among;
 use acpi_asl::block::{BlockText, has_terms, text_in_part, text_of_block};
 use acpi_base::sdt::Sdt;
 use acpi_base::slice::from_offset;
@@ -72,9 +74,10 @@ fn creator(alloc: Global, node: &Node<'_>) -> Result<Option<[u8; 8]>, AslError> 
 // The signature of a definition block.
 fn signature_of(alloc: Global, node: &Node<'_>) -> Result<[u8; 4], AslError> {
     let signature = padded(alloc, node)?;
-    match &signature {
-        b"DSDT" | b"SSDT" | b"PSDT" | b"OSDT" => Ok(signature),
-        _ => Err(fault(node.at, Why::Signature)),
+    if is_among(&signature, &[b"DSDT", b"SSDT", b"PSDT", b"OSDT"]) {
+        Ok(signature)
+    } else {
+        Err(fault(node.at, Why::Signature))
     }
 }
 
@@ -390,7 +393,7 @@ pub fn compile(alloc: Global, text: &[u8]) -> Result<Made, AslError>
     let [node, rest @ ..] = nodes.as_slice() else {
         return Err(fault(0, Why::Block));
     };
-    if !matches!(node.word, b"DefinitionBlock") {
+    if !node.is(b"DefinitionBlock") {
         return Err(fault(node.at, Why::Block));
     }
     if let [next, ..] = rest {

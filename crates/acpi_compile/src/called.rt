@@ -6,7 +6,7 @@ use crate::name::name;
 use crate::node::{Node, list_of};
 use crate::number::decimal;
 use crate::stated::{has_entries, last, name_made};
-use crate::word::is_name;
+use crate::word::{is_among, is_name};
 use acpi_term::name_string::{Arities, without_parents};
 use std::alloc::{AllocError, Global};
 
@@ -14,11 +14,11 @@ use std::alloc::{AllocError, Global};
 
 // How many arguments the object takes that a statement makes, if the statement says it.
 fn count_of(node: &Node<'_>) -> Option<usize> {
-    match (node.word, list_of(&node.arguments)) {
-        (b"Alias", _) => None,
-        (b"External", [_, kind, ..]) if matches!(kind.word, b"UnknownObj") => None,
-        (b"External", [_, _, _, types]) => Some(list_of(&types.body).len()),
-        (b"Method", [_, count, ..]) => match decimal(count.word) {
+    match list_of(&node.arguments) {
+        _ if node.is(b"Alias") => None,
+        [_, kind, ..] if node.is(b"External") && kind.is(b"UnknownObj") => None,
+        [_, _, _, types] if node.is(b"External") => Some(list_of(&types.body).len()),
+        [_, count, ..] if node.is(b"Method") => match decimal(count.word) {
             Some(count) => Some(count as usize),
             None => None,
         },
@@ -101,23 +101,20 @@ struct Spot {
     calls: bool,
 }
 
-// Whether names among the arguments may be those of methods that aren't called, or keywords.
-fn may_name(word: &[u8]) -> bool {
-    matches!(
-        word,
-        b"Alias"
-            | b"CondRefOf"
-            | b"CopyObject"
-            | b"Event"
-            | b"External"
-            | b"Load"
-            | b"Match"
-            | b"Method"
-            | b"ObjectType"
-            | b"OperationRegion"
-            | b"RefOf"
-    )
-}
+// Terms with names among their arguments that may be those of methods that aren't called, or keywords.
+const NAMING: [&[u8]; 11] = [
+    b"Alias",
+    b"CondRefOf",
+    b"CopyObject",
+    b"Event",
+    b"External",
+    b"Load",
+    b"Match",
+    b"Method",
+    b"ObjectType",
+    b"OperationRegion",
+    b"RefOf",
+];
 
 impl Search<'_, '_> {
     // The number that the calls of a name state.
@@ -179,7 +176,7 @@ fn check_in(
 ) -> Result<(), AslError> {
     let statement = spot.statement.unwrap_or(node.start());
     // The macros of descriptors, such as `IRQ`, may be names elsewhere.
-    if statement > search.statement || matches!(node.word, b"ResourceTemplate") {
+    if statement > search.statement || node.is(b"ResourceTemplate") {
         return Ok(());
     }
     if spot.calls {
@@ -187,13 +184,13 @@ fn check_in(
     }
     let arguments = Spot {
         statement: Some(statement),
-        calls: !may_name(node.word),
+        calls: !is_among(node.word, &NAMING),
     };
     check_all(search, depth, arguments, list_of(&node.arguments))?;
     if has_entries(node) {
         return Ok(());
     }
-    let body = if matches!(node.word, b"Package") {
+    let body = if node.is(b"Package") {
         Spot {
             statement: Some(statement),
             calls: false,

@@ -6,6 +6,7 @@ use crate::node::{Node, list_of};
 use crate::number::hex;
 use crate::sized::{Sized, frame, number};
 use crate::template::template;
+use crate::word::{argument_of, local_of};
 use acpi_aml::eisa::EISAName;
 use acpi_aml::uuid::Uuid;
 use acpi_asl::number::least_bytes;
@@ -44,15 +45,18 @@ pub fn alone(node: &Node<'_>, term: Term) -> Result<Sized, AslError> {
 
 /// A constant, a local object or an argument.
 pub fn constant(node: &Node<'_>) -> Option<Term> {
-    match node.word {
-        b"Zero" => Some(Term::Number { value: 0, width: 0 }),
-        b"One" => Some(Term::Number { value: 1, width: 0 }),
-        b"Ones" => Some(Term::Ones),
-        [b'L', b'o', b'c', b'a', b'l', n] if (b'0'..=b'7').contains(n) => {
-            Some(Term::Local(*n - b'0'))
-        }
-        [b'A', b'r', b'g', n] if (b'0'..=b'6').contains(n) => Some(Term::Arg(*n - b'0')),
-        _ => None,
+    if node.is(b"Zero") {
+        return Some(Term::Number { value: 0, width: 0 });
+    }
+    if node.is(b"One") {
+        return Some(Term::Number { value: 1, width: 0 });
+    }
+    if node.is(b"Ones") {
+        return Some(Term::Ones);
+    }
+    match local_of(node.word) {
+        Some(n) => Some(Term::Local(n)),
+        None => Some(Term::Arg(argument_of(node.word)?)),
     }
 }
 

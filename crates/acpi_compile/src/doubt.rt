@@ -5,7 +5,9 @@ use crate::fault::{AslFault, Why};
 use crate::node::{Node, list_of};
 use crate::number::{decimal, hex};
 use crate::stated::{has_entries, last, node_made};
-use crate::word::{byte_of, is_name, operator, operators};
+use crate::word::{
+    argument_of, byte_of, is_among, is_name, local_of, operator, operators,
+};
 use acpi_asl::place::targets;
 use acpi_base::slice::from_offset;
 use acpi_term::op::Op;
@@ -92,24 +94,25 @@ fn is_above_root(scope: &[u8], name: &[u8]) -> bool {
 
 // ---- what nodes are
 
-// Whether a statement is the scope of those in its braces.
-fn is_scope(word: &[u8]) -> bool {
-    matches!(
-        word,
-        b"Device" | b"Method" | b"PowerResource" | b"Processor" | b"Scope" | b"ThermalZone"
-    )
-}
+// Statements that are the scopes of those in their braces.
+const SCOPES: [&[u8]; 6] = [
+    b"Device",
+    b"Method",
+    b"PowerResource",
+    b"Processor",
+    b"Scope",
+    b"ThermalZone",
+];
 
-fn is_conditional(word: &[u8]) -> bool {
-    matches!(word, b"Else" | b"If" | b"While")
-}
+// Statements of which those in their braces may not run.
+const CONDITIONAL: [&[u8]; 3] = [b"Else", b"If", b"While"];
 
 // The name of the object that a statement makes. An External makes none.
 fn object_made<'a, 'b>(node: &'b Node<'a>) -> Option<&'b Node<'a>> {
-    match node.word {
-        b"External" => None,
-        _ => node_made(node),
+    if node.is(b"External") {
+        return None;
     }
+    node_made(node)
 }
 
 // How many arguments a Method has.
@@ -120,102 +123,96 @@ fn argument_count(node: &Node<'_>) -> usize {
     }
 }
 
-// The number of an argument, if a word is one: `Arg0` to `Arg6`.
-fn argument_of(word: &[u8]) -> Option<usize> {
-    match word {
-        [b'A', b'r', b'g', n] if (b'0'..=b'6').contains(n) => Some(usize::from(*n - b'0')),
-        _ => None,
-    }
-}
+// Operators whose first operand is the name of an object, a local object, or another reference, although it may not be left out.
+const REFERRING: [&[u8]; 13] = [
+    b"Acquire",
+    b"CondRefOf",
+    b"Decrement",
+    b"Increment",
+    b"Notify",
+    b"ObjectType",
+    b"RefOf",
+    b"Release",
+    b"Reset",
+    b"Signal",
+    b"SizeOf",
+    b"Unload",
+    b"Wait",
+];
 
-fn is_local(word: &[u8]) -> bool {
-    matches!(word, [b'L', b'o', b'c', b'a', b'l', b'0'..=b'7'])
-}
-
-// Whether an operand is the name of an object, a local object, or another reference, although it may not be left out.
+// Whether an operand is such a reference. The second operand of a CopyObject and of a Store is one.
 fn is_reference(word: &[u8], i: usize) -> bool {
-    match word {
-        b"CopyObject" | b"Store" => i == 1,
-        b"Acquire"
-        | b"CondRefOf"
-        | b"Decrement"
-        | b"Increment"
-        | b"Notify"
-        | b"ObjectType"
-        | b"RefOf"
-        | b"Release"
-        | b"Reset"
-        | b"Signal"
-        | b"SizeOf"
-        | b"Unload"
-        | b"Wait" => i == 0,
+    match i {
+        0 => is_among(word, &REFERRING),
+        1 => is_among(word, &[b"CopyObject", b"Store"]),
         _ => false,
     }
 }
 
 // Whether a term may be a reference (SuperName in ACPI 6.5, 19.2.3). A method may return one.
 fn may_refer(word: &[u8]) -> bool {
-    match word {
-        b"Debug" | b"DerefOf" | b"Index" | b"RefOf" => true,
-        _ => is_name(word) || argument_of(word).is_some() || is_local(word),
-    }
+    is_among(word, &[b"Debug", b"DerefOf", b"Index", b"RefOf"])
+        || is_name(word)
+        || argument_of(word).is_some()
+        || local_of(word).is_some()
 }
 
-// Whether a term has no value, so that it is no operand.
-fn is_valueless(word: &[u8]) -> bool {
-    matches!(
-        word,
-        b"Break"
-            | b"BreakPoint"
-            | b"Continue"
-            | b"Fatal"
-            | b"Noop"
-            | b"Notify"
-            | b"Release"
-            | b"Reset"
-            | b"Return"
-            | b"Signal"
-            | b"Sleep"
-            | b"Stall"
-            | b"Unload"
-    )
-}
+// Terms without a value, so that they are no operands.
+const VALUELESS: [&[u8]; 13] = [
+    b"Break",
+    b"BreakPoint",
+    b"Continue",
+    b"Fatal",
+    b"Noop",
+    b"Notify",
+    b"Release",
+    b"Reset",
+    b"Return",
+    b"Signal",
+    b"Sleep",
+    b"Stall",
+    b"Unload",
+];
 
 // Whether the arguments of a term that is no operator have values: a call, or a statement with a predicate.
 fn takes_values(word: &[u8]) -> bool {
-    is_name(word) || matches!(word, b"If" | b"While")
+    is_name(word) || is_among(word, &[b"If", b"While"])
 }
 
-// Whether a term can't be an element of a package (PackageElement in ACPI 6.5, 19.2.5).
+// Operators that can't be elements of a package (PackageElement in ACPI 6.5, 19.2.5).
+const NO_ELEMENTS: [&[u8]; 11] = [
+    b"Acquire",
+    b"CondRefOf",
+    b"CopyObject",
+    b"Debug",
+    b"DerefOf",
+    b"ObjectType",
+    b"RefOf",
+    b"SizeOf",
+    b"Store",
+    b"Timer",
+    b"Wait",
+];
+
+// Whether a term can't be an element of a package.
 fn is_no_element(node: &Node<'_>) -> bool {
-    match node.word {
-        b"Acquire"
-        | b"CondRefOf"
-        | b"CopyObject"
-        | b"Debug"
-        | b"DerefOf"
-        | b"ObjectType"
-        | b"RefOf"
-        | b"SizeOf"
-        | b"Store"
-        | b"Timer"
-        | b"Wait" => true,
-        word => {
-            argument_of(word).is_some()
-                || is_local(word)
-                || is_valueless(word)
-                || is_name(word) && !node.is_alone()
-        }
-    }
+    let word = node.word;
+    is_among(word, &NO_ELEMENTS)
+        || is_among(word, &VALUELESS)
+        || argument_of(word).is_some()
+        || local_of(word).is_some()
+        || is_name(word) && !node.is_alone()
 }
 
 // A number without lists.
 fn value_of(node: &Node<'_>) -> Option<u64> {
-    match node.word {
-        b"Zero" => Some(0),
-        b"One" => Some(1),
-        word => Some(hex(word)?.value),
+    if node.is(b"Zero") {
+        return Some(0);
     }
+    if node.is(b"One") {
+        return Some(1);
+    }
+    Some(hex(node.word)?.value)
 }
 
 // ---- what is looked for
@@ -263,10 +260,10 @@ impl Search {
             return Ok(());
         };
         let path = path_of(self.alloc, scope, name.word)?;
-        if matches!(node.word, b"Method") {
+        if node.is(b"Method") {
             self.count(Vec::from_slice(self.alloc, &path)?, argument_count(node))?;
         }
-        if matches!(node.word, b"External") {
+        if node.is(b"External") {
             'characters: for (i, c) in path.iter().enumerate() {
                 if *c == b'.' {
                     let around = path.get(..i).unwrap_or(&[]);
@@ -308,7 +305,7 @@ impl Search {
     // The path of a scope. A Scope of one segment may be an object of a scope around (ACPI 6.5, 5.3).
     fn scope_of(&self, around: &[u8], node: &Node<'_>, name: &[u8]) -> Result<Vec<u8>, AllocError> {
         let path = path_of(self.alloc, around, name)?;
-        if !matches!(node.word, b"Scope") || last(name) != name || self.known.contains_key(&path) {
+        if !node.is(b"Scope") || last(name) != name || self.known.contains_key(&path) {
             return Ok(path);
         }
         let mut scope = around;
@@ -371,7 +368,7 @@ impl Search {
 
     // A Break or a Continue is in a While (ACPI 6.5, 19.6.8 and 19.6.16).
     fn check_loop(&mut self, around: Surroundings<'_>, node: &Node<'_>) -> Result<(), AllocError> {
-        if matches!(node.word, b"Break" | b"Continue") && !around.is_in_loop {
+        if is_among(node.word, &[b"Break", b"Continue"]) && !around.is_in_loop {
             return self.doubt(node.at, Why::Loop);
         }
         Ok(())
@@ -384,7 +381,7 @@ impl Search {
         node: &Node<'_>,
     ) -> Result<(), AllocError> {
         match argument_of(node.word) {
-            Some(n) if n >= around.arguments => self.doubt(node.at, Why::NoArgument),
+            Some(n) if usize::from(n) >= around.arguments => self.doubt(node.at, Why::NoArgument),
             _ => Ok(()),
         }
     }
@@ -410,8 +407,8 @@ impl Search {
     }
 
     fn check_level(&mut self, node: &Node<'_>) -> Result<(), AllocError> {
-        match (node.word, list_of(&node.arguments)) {
-            (b"Mutex", [_, level]) => match byte_of(level) {
+        match list_of(&node.arguments) {
+            [_, level] if node.is(b"Mutex") => match byte_of(level) {
                 Some(number) if number > MAX_LEVEL => self.doubt(level.at, Why::Level),
                 _ => Ok(()),
             },
@@ -421,8 +418,8 @@ impl Search {
 
     // The bytes of a buffer are no more than its size. Compilers make a larger buffer of such a text (ACPI 6.5, 19.6.10).
     fn check_size(&mut self, node: &Node<'_>) -> Result<(), AllocError> {
-        match (node.word, list_of(&node.arguments)) {
-            (b"Buffer", [size]) => match value_of(size) {
+        match list_of(&node.arguments) {
+            [size] if node.is(b"Buffer") => match value_of(size) {
                 Some(number) if number < list_of(&node.body).len() as u64 => {
                     self.doubt(size.at, Why::Bytes)
                 }
@@ -434,7 +431,7 @@ impl Search {
 
     // The elements of a package are data or names (ACPI 6.5, 19.6.101).
     fn check_elements(&mut self, node: &Node<'_>) -> Result<(), AllocError> {
-        if !matches!(node.word, b"Package") {
+        if !node.is(b"Package") {
             return Ok(());
         }
         'elements: for element in list_of(&node.body) {
@@ -454,9 +451,9 @@ impl Search {
         let first_target = end.saturating_sub(targets(op));
         'operands: for (i, operand) in list_of(&node.arguments).iter().enumerate() {
             let is_target = first_target <= i && i < end;
-            let is_left_out = is_target && matches!(operand.word, [] | b"Zero");
+            let is_left_out = is_target && (operand.word.is_empty() || operand.is(b"Zero"));
             let refers = is_target || is_reference(node.word, i);
-            if is_valueless(operand.word) {
+            if is_among(operand.word, &VALUELESS) {
                 self.doubt(operand.at, Why::Value)?;
             } else if refers && !is_left_out && !may_refer(operand.word) {
                 self.doubt(operand.at, Why::Reference)?;
@@ -471,7 +468,7 @@ impl Search {
             return Ok(());
         }
         'arguments: for argument in list_of(&node.arguments) {
-            if is_valueless(argument.word) {
+            if is_among(argument.word, &VALUELESS) {
                 self.doubt(argument.at, Why::Value)?;
             }
         }
@@ -480,7 +477,7 @@ impl Search {
 
     // An Else follows an If (ACPI 6.5, 19.6.38).
     fn check_else(&mut self, before: &[u8], node: &Node<'_>) -> Result<(), AllocError> {
-        if matches!(node.word, b"Else") && !matches!(before, b"If") {
+        if node.is(b"Else") && before != b"If".as_slice() {
             return self.doubt(node.at, Why::Else);
         }
         Ok(())
@@ -519,7 +516,7 @@ fn note_all(
     'nodes: for node in nodes {
         search.note(scope, node)?;
         match list_of(&node.arguments) {
-            [name, ..] if is_scope(node.word) => {
+            [name, ..] if is_among(node.word, &SCOPES) => {
                 let inside = search.scope_of(scope, node, name.word)?;
                 note_all(search, depth, &inside, list_of(&node.body))?;
             }
@@ -561,21 +558,20 @@ fn look_at(
     around: Surroundings<'_>,
     node: &Node<'_>,
 ) -> Result<(), AllocError> {
-    if matches!(node.word, b"ResourceTemplate") {
+    if node.is(b"ResourceTemplate") {
         return Ok(());
     }
     search.check(around, node)?;
     look_at_all(search, depth, around, false, list_of(&node.arguments))?;
     let body = list_of(&node.body);
-    match (node.word, list_of(&node.arguments)) {
-        (word, [name, ..]) if is_scope(word) => {
+    match list_of(&node.arguments) {
+        [name, ..] if is_among(node.word, &SCOPES) => {
             let scope = search.scope_of(around.scope, node, name.word)?;
-            let is_method = matches!(word, b"Method");
             let inside = Surroundings {
                 scope: &scope,
                 is_in_loop: false,
                 is_conditional: around.is_conditional,
-                arguments: if is_method {
+                arguments: if node.is(b"Method") {
                     argument_count(node)
                 } else {
                     around.arguments
@@ -583,9 +579,9 @@ fn look_at(
             };
             look_at_all(search, depth, inside, true, body)
         }
-        (word, _) if is_conditional(word) => {
+        _ if is_among(node.word, &CONDITIONAL) => {
             let inside = Surroundings {
-                is_in_loop: around.is_in_loop || matches!(word, b"While"),
+                is_in_loop: around.is_in_loop || node.is(b"While"),
                 is_conditional: true,
                 ..around
             };

@@ -131,7 +131,7 @@ impl Entries {
         let [connection] = list_of(&node.arguments) else {
             return Err(wrong(node));
         };
-        if matches!(connection.word, b"Buffer") {
+        if connection.is(b"Buffer") {
             return self.raw(alloc, node, connection);
         }
         // The macros of descriptors, such as `IRQ`, may be names elsewhere.
@@ -143,6 +143,20 @@ impl Entries {
         let name = name(alloc, connection.at, connection.word)?;
         let size = name.as_bytes().len();
         self.add(TermEntry::Connection(name), size.saturating_add(1))
+    }
+
+    // Adds an entry that is one node, and returns whether it is one.
+    fn add_whole(&mut self, alloc: Global, node: &Node<'_>) -> Result<bool, AslError> {
+        if node.is(b"Offset") {
+            self.offset(node)?;
+        } else if node.is(b"AccessAs") {
+            self.access(node)?;
+        } else if node.is(b"Connection") {
+            self.connection(alloc, node)?;
+        } else {
+            return Ok(false);
+        }
+        Ok(true)
     }
 
     // Adds a connection by a buffer that is no macro's.
@@ -181,14 +195,14 @@ impl Entries {
 
 // A size, and how many bytes it has after its prefix.
 fn size_of(node: &Node<'_>) -> Option<(u64, u8)> {
-    match node.word {
-        b"Zero" => Some((0, 0)),
-        b"One" => Some((1, 0)),
-        word => {
-            let number = hex(word)?;
-            Some((number.value, number.width))
-        }
+    if node.is(b"Zero") {
+        return Some((0, 0));
     }
+    if node.is(b"One") {
+        return Some((1, 0));
+    }
+    let number = hex(node.word)?;
+    Some((number.value, number.width))
 }
 
 /// The entries of a list in braces.
@@ -205,21 +219,8 @@ pub fn read_entries(alloc: Global, nodes: &[Node<'_>]) -> Result<Entries, AslErr
                 list.bits(name, node)?;
                 None
             }
-            None => match node.word {
-                b"Offset" => {
-                    list.offset(node)?;
-                    None
-                }
-                b"AccessAs" => {
-                    list.access(node)?;
-                    None
-                }
-                b"Connection" => {
-                    list.connection(alloc, node)?;
-                    None
-                }
-                _ => Some(node),
-            },
+            None if list.add_whole(alloc, node)? => None,
+            None => Some(node),
         };
     }
     match before {

@@ -4,7 +4,7 @@ use crate::argument::{below, byte_at, number_at, string_at};
 use crate::constant::bytes_of;
 use crate::fault::{AslError, Why, fault};
 use crate::node::{Node, list_of};
-use crate::word::{byte_of, number_in};
+use crate::word::{byte_of, is_among, number_in};
 use acpi_asl::content::value_of;
 use acpi_asl::descriptor::{Bits, Braces, Check, Offset, Part, words};
 use acpi_asl::macros::{Descriptor, checks, descriptors, macro_word, parts, tail};
@@ -215,7 +215,7 @@ fn push_vendor(
     node: &Node<'_>,
     item: &mut Vec<u8>,
 ) -> Result<(), AslError> {
-    if !matches!(node.word, b"RawDataBuffer") {
+    if !node.is(b"RawDataBuffer") {
         return Err(fault(node.at, Why::VendorData));
     }
     let bytes = bytes_of(alloc, list_of(&node.body))?;
@@ -397,12 +397,14 @@ fn check_item(node: &Node<'_>, item: &mut Vec<u8>) -> Result<(), AslError> {
     }
 }
 
+/// Whether the descriptors after a macro are in its braces.
+pub fn begins_group(word: &[u8]) -> bool {
+    is_among(word, &[b"StartDependentFn", b"StartDependentFnNoPri"])
+}
+
 /// Whether a macro begins or ends a group of descriptors. It alone is no template.
 pub fn is_of_group(word: &[u8]) -> bool {
-    matches!(
-        word,
-        b"StartDependentFn" | b"StartDependentFnNoPri" | b"EndDependentFn"
-    )
+    begins_group(word) || word == b"EndDependentFn".as_slice()
 }
 
 /// The bytes of the descriptor that a macro makes.

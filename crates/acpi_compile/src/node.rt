@@ -25,6 +25,11 @@ pub fn word_node<'a>(at: usize, note: &'a [u8], word: &'a [u8]) -> Node<'a> {
 }
 
 impl Node<'_> {
+    /// Whether this is its word.
+    pub fn is(&self, word: &[u8]) -> bool {
+        self.word == word
+    }
+
     /// Whether nothing stands here.
     pub fn is_absent(&self) -> bool {
         self.word.is_empty() && self.arguments.is_none() && self.body.is_none()

@@ -4,7 +4,7 @@ use crate::builder::MAX_LISTS;
 use crate::fault::AslError;
 use crate::name::name;
 use crate::node::{Node, list_of};
-use crate::word::{is_keyword, is_name};
+use crate::word::{is_among, is_keyword, is_name};
 use acpi_term::name_string::{Arities, NameString};
 use std::alloc::{AllocError, Global};
 
@@ -30,8 +30,8 @@ struct Declared<'a> {
 fn push_own<'a>(node: &Node<'a>, declared: &mut Declared<'a>) -> Result<(), AllocError> {
     match list_of(&node.arguments) {
         [name, ..] if node.is_for_compilers() => declared.absent.push(name.word)?,
-        [_, kind, ..] if matches!((node.word, kind.word), (b"External", b"UnknownObj")) => {}
-        [name, ..] if matches!(node.word, b"Method" | b"External") => {
+        [_, kind, ..] if node.is(b"External") && kind.is(b"UnknownObj") => {}
+        [name, ..] if node.is(b"Method") || node.is(b"External") => {
             declared.segments.push(last(name.word))?
         }
         _ => {}
@@ -56,16 +56,6 @@ fn push_declared<'a>(
     Ok(())
 }
 
-// Whether a word is among these.
-fn is_among(word: &[u8], words: &[&[u8]]) -> bool {
-    'words: for other in words {
-        if *other == word {
-            return true;
-        }
-    }
-    false
-}
-
 // Whether a node is a call with arguments of a method that isn't declared.
 fn is_stated(declared: &Declared<'_>, node: &Node<'_>) -> bool {
     !list_of(&node.arguments).is_empty()
@@ -87,7 +77,7 @@ fn add_called(
     };
     'nodes: for node in nodes {
         // The macros of descriptors, such as `IRQ`, may be names elsewhere.
-        if matches!(node.word, b"ResourceTemplate" | b"Connection") {
+        if node.is(b"ResourceTemplate") || node.is(b"Connection") {
             continue;
         }
         if is_stated(declared, node) {
@@ -122,28 +112,40 @@ enum Made {
     Last,
 }
 
+// Statements whose first argument is that name.
+const MAKING_FIRST: [&[u8]; 11] = [
+    b"DataTableRegion",
+    b"Device",
+    b"Event",
+    b"External",
+    b"Method",
+    b"Mutex",
+    b"Name",
+    b"OperationRegion",
+    b"PowerResource",
+    b"Processor",
+    b"ThermalZone",
+];
+
+// Statements whose last argument is that name.
+const MAKING_LAST: [&[u8]; 7] = [
+    b"Alias",
+    b"CreateBitField",
+    b"CreateByteField",
+    b"CreateDWordField",
+    b"CreateField",
+    b"CreateQWordField",
+    b"CreateWordField",
+];
+
 fn made_at(word: &[u8]) -> Made {
-    match word {
-        b"DataTableRegion"
-        | b"Device"
-        | b"Event"
-        | b"External"
-        | b"Method"
-        | b"Mutex"
-        | b"Name"
-        | b"OperationRegion"
-        | b"PowerResource"
-        | b"Processor"
-        | b"ThermalZone" => Made::First,
-        b"Alias"
-        | b"CreateBitField"
-        | b"CreateByteField"
-        | b"CreateDWordField"
-        | b"CreateField"
-        | b"CreateQWordField"
-        | b"CreateWordField" => Made::Last,
-        _ => Made::Absent,
+    if is_among(word, &MAKING_FIRST) {
+        return Made::First;
     }
+    if is_among(word, &MAKING_LAST) {
+        return Made::Last;
+    }
+    Made::Absent
 }
 
 // The name of an object that is made is no use of it. Returns the other arguments of a node.
@@ -174,7 +176,7 @@ pub fn name_made<'a>(node: &Node<'a>) -> Option<&'a [u8]> {
 
 /// Whether the braces of a node have the entries of a field, whose names are made there.
 pub fn has_entries(node: &Node<'_>) -> bool {
-    matches!(node.word, b"BankField" | b"Field" | b"IndexField")
+    is_among(node.word, &[b"BankField", b"Field", b"IndexField"])
 }
 
 /// The place of the first use, from a place on, of an object with this last segment. Lists are looked through to a depth.

@@ -1,15 +1,10 @@
 //! Resource templates (ACPI 6.5, 6.4 and 19.6.117).
 
 use crate::fault::{AslError, Why, fault};
-use crate::item::{is_of_group, item};
+use crate::item::{begins_group, is_of_group, item};
 use crate::node::{Node, list_of};
 use acpi_asl::template::is_template;
 use std::alloc::Global;
-
-// Whether the descriptors after a macro are in its braces.
-fn begins_group(word: &[u8]) -> bool {
-    matches!(word, b"StartDependentFn" | b"StartDependentFnNoPri")
-}
 
 // Adds the descriptor of a macro, and those in its braces. They are in braces to this depth.
 #[cycle(items)]

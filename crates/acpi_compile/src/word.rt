@@ -1,10 +1,43 @@
 //! The keywords of ASL (ACPI 6.5, 19.2.5 to 19.2.7).
 
 use crate::node::Node;
+use crate::note::after;
 use crate::number::hex;
 use acpi_asl::word::{Keyword, operator_word, rows_of};
 use acpi_term::op::Op;
 use std::alloc::{AllocError, Global};
+
+/// Whether a word is among these.
+pub fn is_among(word: &[u8], words: &[&[u8]]) -> bool {
+    'words: for other in words {
+        if *other == word {
+            return true;
+        }
+    }
+    false
+}
+
+// The digit after a front, if nothing follows it and it is no greater than the last one.
+fn digit_after(front: &[u8], last: u8, word: &[u8]) -> Option<u8> {
+    let [digit] = after(word, front)? else {
+        return None;
+    };
+    if (b'0'..=last).contains(digit) {
+        Some(*digit - b'0')
+    } else {
+        None
+    }
+}
+
+/// The number of an argument, if a word is one: `Arg0` to `Arg6`.
+pub fn argument_of(word: &[u8]) -> Option<u8> {
+    digit_after(b"Arg", b'6', word)
+}
+
+/// The number of a local object, if a word is one: `Local0` to `Local7`.
+pub fn local_of(word: &[u8]) -> Option<u8> {
+    digit_after(b"Local", b'7', word)
+}
 
 /// Whether a word has a small letter, which names don't have. Keywords of capitals alone, such as MEQ and IRQ, have none.
 pub fn is_keyword(word: &[u8]) -> bool {

@@ -185,7 +185,6 @@ pub const NAMED: [Link; 11] = [
         Index(SUBSPACES), "number of structures of PCCT", "ACPI 6.5, 5.2.21"),
 ];
 
-#[tactic(auto, unfolding(crate::specs::Machine::affinities))]
 fn check_affinities<'a>(
     alloc: Global,
     tables: &[&[u8]],
@@ -198,7 +197,6 @@ fn check_affinities<'a>(
     check_links(alloc, &AFFINITIES, tables, table, findings)
 }
 
-#[tactic(auto, unfolding(crate::specs::Machine::named))]
 fn check_named<'a>(
     alloc: Global,
     tables: &[&[u8]],

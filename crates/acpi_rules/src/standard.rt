@@ -482,7 +482,6 @@ const INCLUDED: [Relation; 1] = [
         Includes(&PROCESSORS, "processor that is enabled or online capable"), "ACPI 6.5, 5.2.12"),
 ];
 
-#[tactic(auto, unfolding(crate::specs::Standard::numbered))]
 fn check_numbered<'a>(
     alloc: Global,
     walk: Option<Walk>,
@@ -495,7 +494,6 @@ fn check_numbered<'a>(
     check_relations(alloc, &NUMBERED, walk, bytes, findings)
 }
 
-#[tactic(auto, unfolding(crate::specs::Standard::different))]
 fn check_different<'a>(
     alloc: Global,
     walk: Option<Walk>,
@@ -508,7 +506,6 @@ fn check_different<'a>(
     check_relations(alloc, &DIFFERENT, walk, bytes, findings)
 }
 
-#[tactic(auto, unfolding(crate::specs::Standard::ordered))]
 fn check_ordered<'a>(
     alloc: Global,
     walk: Option<Walk>,
@@ -521,7 +518,6 @@ fn check_ordered<'a>(
     check_relations(alloc, &ORDERED, walk, bytes, findings)
 }
 
-#[tactic(auto, unfolding(crate::specs::Standard::counted))]
 fn check_counted<'a>(
     alloc: Global,
     walk: Option<Walk>,
@@ -534,7 +530,6 @@ fn check_counted<'a>(
     check_relations(alloc, &COUNTED, walk, bytes, findings)
 }
 
-#[tactic(auto, unfolding(crate::specs::Standard::paired))]
 fn check_paired<'a>(
     alloc: Global,
     walk: Option<Walk>,
@@ -547,7 +542,6 @@ fn check_paired<'a>(
     check_relations(alloc, &PAIRED, walk, bytes, findings)
 }
 
-#[tactic(auto, unfolding(crate::specs::Standard::aligned))]
 fn check_aligned<'a>(
     alloc: Global,
     walk: Option<Walk>,
@@ -560,7 +554,6 @@ fn check_aligned<'a>(
     check_relations(alloc, &ALIGNED, walk, bytes, findings)
 }
 
-#[tactic(auto, unfolding(crate::specs::Standard::bounded))]
 fn check_bounded<'a>(
     alloc: Global,
     walk: Option<Walk>,
@@ -573,7 +566,6 @@ fn check_bounded<'a>(
     check_relations(alloc, &BOUNDED, walk, bytes, findings)
 }
 
-#[tactic(auto, unfolding(crate::specs::Standard::sized))]
 fn check_sized<'a>(
     alloc: Global,
     walk: Option<Walk>,
@@ -586,7 +578,6 @@ fn check_sized<'a>(
     check_relations(alloc, &SIZED, walk, bytes, findings)
 }
 
-#[tactic(auto, unfolding(crate::specs::Standard::strings))]
 fn check_strings<'a>(
     alloc: Global,
     walk: Option<Walk>,
@@ -599,7 +590,6 @@ fn check_strings<'a>(
     check_relations(alloc, &STRINGS, walk, bytes, findings)
 }
 
-#[tactic(auto, unfolding(crate::specs::Standard::referred))]
 fn check_referred<'a>(
     alloc: Global,
     walk: Option<Walk>,
@@ -612,7 +602,6 @@ fn check_referred<'a>(
     check_relations(alloc, &REFERRED, walk, bytes, findings)
 }
 
-#[tactic(auto, unfolding(crate::specs::Standard::placed))]
 fn check_placed<'a>(
     alloc: Global,
     walk: Option<Walk>,
@@ -625,7 +614,6 @@ fn check_placed<'a>(
     check_relations(alloc, &PLACED, walk, bytes, findings)
 }
 
-#[tactic(auto, unfolding(crate::specs::Standard::included))]
 fn check_included<'a>(
     alloc: Global,
     walk: Option<Walk>,

@@ -12,7 +12,7 @@ use crate::term::{Term, TermEntry};
 use std::slice::from_ref;
 
 /// What a term is, without its width and its children. The parts are borrowed.
-#[derive(Clone, Copy, Debug)]
+#[derive(Clone, Copy)]
 pub enum Kind<'a> {
     Number(u64),
     Ones,
@@ -66,7 +66,7 @@ pub enum Kind<'a> {
 }
 
 /// The parts of a term. Its children are those of the first list and then those of the second.
-#[derive(Clone, Copy, Debug)]
+#[derive(Clone, Copy)]
 pub struct Parts<'a> {
     pub kind: Kind<'a>,
     /// The width, or 0 if the term has none.

@@ -8,7 +8,7 @@ use acpi_text::space::prints;
 use std::fmt;
 
 /// What bytes are that are no table. Its text is for a line after the name of the file.
-#[derive(Clone, Copy, Debug)]
+#[derive(Clone, Copy)]
 pub enum Another {
     /// A dump of tables as text (of acpidump).
     Dump,

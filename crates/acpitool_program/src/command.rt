@@ -17,7 +17,7 @@ use acpi_term::name_string::Arities;
 use std::alloc::{AllocError, Global};
 
 /// What the program is asked for.
-#[derive(Debug, Drop)]
+#[derive(Drop)]
 pub enum Command<'a> {
     /// `--help`, `-h` or `help`: how the program is used.
     Help,
@@ -67,7 +67,7 @@ pub enum Command<'a> {
 }
 
 /// How `show` shows tables, by its option.
-#[derive(Clone, Copy, Debug)]
+#[derive(Clone, Copy)]
 pub enum Style {
     /// There is no option. The lines of texts have offsets, and the terms of definition blocks are ASL.
     Usual,
@@ -78,7 +78,7 @@ pub enum Style {
 }
 
 /// A command that takes words.
-#[derive(Clone, Copy, Debug)]
+#[derive(Clone, Copy)]
 pub enum Verb {
     /// `show` prints tables as text.
     Show,
@@ -111,7 +111,7 @@ pub enum Verb {
 }
 
 /// Why words ask for nothing.
-#[derive(Debug, Drop)]
+#[derive(Drop)]
 pub enum Wrong<'a> {
     /// There is no word.
     NoCommand,
@@ -166,7 +166,7 @@ pub enum Wrong<'a> {
 }
 
 /// Why words state no numbers of arguments.
-#[derive(Debug, Drop)]
+#[derive(Drop)]
 pub enum Misstated<'a> {
     /// The word isn't NAME=N with a digit from 0 to 7.
     Word(&'a str),

@@ -13,7 +13,7 @@ use std::alloc::AllocError;
 use std::fmt;
 
 /// What is wrong with bytes. Its text is a line for standard error, without the name of the file.
-#[derive(Clone, Copy, Debug)]
+#[derive(Clone, Copy)]
 pub struct Fault {
     /// The offset of the fault from the first byte of the table, if it has one.
     pub place: Option<usize>,

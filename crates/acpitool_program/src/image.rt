@@ -51,7 +51,7 @@ fn is_pointer_at(bytes: &[u8], at: usize, size: usize) -> bool
 }
 
 /// Why the tables of an image can't be listed.
-#[derive(Clone, Copy, Debug)]
+#[derive(Clone, Copy)]
 pub enum NoImage {
     /// There is no Root System Description Pointer.
     NoPointer,

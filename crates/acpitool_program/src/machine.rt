@@ -12,7 +12,7 @@ use std::io;
 use std::io::Write;
 
 /// A table that was gathered or checked.
-#[derive(Debug, Drop)]
+#[derive(Drop)]
 pub struct Kept {
     /// The name of its file, and of a table of a dump or an image also its title.
     pub name: String,

@@ -8,7 +8,7 @@ use crate::files::is_there;
 use std::rt::Files;
 
 /// An image in a file.
-#[derive(Clone, Copy, Debug)]
+#[derive(Clone, Copy)]
 pub struct Placed<'a> {
     /// The name of the file. It isn't `-`: a word that begins with a dash and has more is an option.
     pub file: &'a str,

@@ -16,7 +16,7 @@ use std::alloc::{AllocError, Global};
 use std::fmt;
 
 /// A field that depends on the other bytes of its table, at an offset.
-#[derive(Clone, Copy, Debug)]
+#[derive(Clone, Copy)]
 pub enum Seal {
     /// The number of all bytes, in four bytes.
     Length(u8),
@@ -27,7 +27,7 @@ pub enum Seal {
 }
 
 /// Why no length and no checksums make bytes a table. Its text is for a line after the name of the file.
-#[derive(Clone, Copy, Debug)]
+#[derive(Clone, Copy)]
 pub enum Unfit {
     /// They are no table.
     NoTable(Another),

@@ -37,7 +37,7 @@ pub struct Showing<'a> {
 }
 
 /// What is printed of a table.
-#[derive(Debug, Drop)]
+#[derive(Drop)]
 pub struct Shown {
     /// The text of its bytes, or of the header of a definition block.
     pub text: Vec<u8>,

@@ -104,15 +104,17 @@ fn connection(language: Language, alloc: Global, bytes: &[u8]) -> Result<(TermEn
 fn entry(language: Language, alloc: Global, bytes: &[u8]) -> Result<(TermEntry, &[u8]), Cause>
     ensures { Gives (λ x. (entry_view x.0, x.1.now)) result (entry_at language bytes.now) }
 {
-    match bytes {
-        [] => Err(Cause::Truncated),
-        [0x00, rest @ ..] => {
+    let Some((byte, rest)) = bytes.split_first() else {
+        return Err(Cause::Truncated);
+    };
+    match *byte {
+        0x00 => {
             let (width, bits, rest) = length(rest)?;
             Ok((TermEntry::Reserved(bits, width), rest))
         }
-        [0x01, rest @ ..] => access(language, rest),
-        [0x02, rest @ ..] => connection(language, alloc, rest),
-        [0x03, rest @ ..] => extended_access(language, rest),
+        0x01 => access(language, rest),
+        0x02 => connection(language, alloc, rest),
+        0x03 => extended_access(language, rest),
         _ => {
             let (name, rest) = segment(bytes)?;
             let (width, bits, rest) = length(rest)?;

@@ -630,21 +630,23 @@ fn extended(language: Language, alloc: Global, bytes: &[u8]) -> Result<TermStart
     ensures gives { Gives seen result (extended_at language bytes.now) }
     ensures alone { IfOk result IsAlone }
 {
-    match bytes {
-        [] => Err(Cause::Truncated),
-        [0x01, rest @ ..] => mutex(language, alloc, rest),
-        [0x23, rest @ ..] => acquire(language, alloc, rest),
-        [0x27, rest @ ..] => release(language, alloc, rest),
-        [0x32, rest @ ..] => fatal(language, rest),
-        [0x80, rest @ ..] => region(language, alloc, rest),
-        [0x81, rest @ ..] => field(language, alloc, rest),
-        [0x82, rest @ ..] => device(language, alloc, rest),
-        [0x83, rest @ ..] => processor(language, alloc, rest),
-        [0x84, rest @ ..] => power_resource(language, alloc, rest),
-        [0x85, rest @ ..] => thermal_zone(language, alloc, rest),
-        [0x86, rest @ ..] => index_field(language, alloc, rest),
-        [0x87, rest @ ..] => bank_field(language, alloc, rest),
-        [byte, rest @ ..] => operator(language, &[0x5b, *byte], rest),
+    let Some((byte, rest)) = bytes.split_first() else {
+        return Err(Cause::Truncated);
+    };
+    match *byte {
+        0x01 => mutex(language, alloc, rest),
+        0x23 => acquire(language, alloc, rest),
+        0x27 => release(language, alloc, rest),
+        0x32 => fatal(language, rest),
+        0x80 => region(language, alloc, rest),
+        0x81 => field(language, alloc, rest),
+        0x82 => device(language, alloc, rest),
+        0x83 => processor(language, alloc, rest),
+        0x84 => power_resource(language, alloc, rest),
+        0x85 => thermal_zone(language, alloc, rest),
+        0x86 => index_field(language, alloc, rest),
+        0x87 => bank_field(language, alloc, rest),
+        byte => operator(language, &[0x5b, byte], rest),
     }
 }
 

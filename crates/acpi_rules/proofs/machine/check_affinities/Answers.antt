@@ -1,0 +1,6 @@
+use Rattle.acpi_rules.proofs.machine.check_affinities.Goals as goal
+
+-- The rows of the definition are those of the code.
+pub returns : goal.returns
+unfolding Rattle.acpi_rules.specs.Machine.affinities
+returns c = c.check_links.ensures

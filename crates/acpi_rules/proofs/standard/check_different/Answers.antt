@@ -1,0 +1,6 @@
+use Rattle.acpi_rules.proofs.standard.check_different.Goals as goal
+
+-- The rows of the definition are those of the code.
+pub returns : goal.returns
+unfolding Rattle.acpi_rules.specs.Standard.different
+returns c = c.check_relations.ensures
