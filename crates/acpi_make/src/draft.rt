@@ -34,7 +34,7 @@ use acpi_text::piece::{inner_of, parts_of};
 use std::alloc::{AllocError, Global};
 
 /// Where something begins in a table: `at` is the number of bytes before it, and `from` and `to` the range of its text.
-#[derive(Clone, Copy, Debug)]
+#[derive(Clone, Copy)]
 pub enum Mark {
     /// A structure, by its heading.
     Structure {
@@ -58,7 +58,7 @@ pub enum Mark {
 }
 
 /// A table in the making.
-#[derive(Debug, Drop)]
+#[derive(Drop)]
 pub struct Draft {
     /// The bytes so far.
     pub cells: Vec<Cell>,
@@ -87,7 +87,7 @@ pub struct Draft {
 }
 
 /// What a text is read by: the form of the table, the place of a structure's type, and the text itself.
-#[derive(Clone, Copy, Debug)]
+#[derive(Clone, Copy)]
 pub struct Source<'a> {
     pub form: TableForm,
     pub kind: Place,

@@ -20,7 +20,7 @@ use acpi_text::form::{Choice, Inner, InnerForm, InnerList, Part, TableForm};
 use acpi_text::part::between;
 
 /// A field that a form names.
-#[derive(Clone, Copy, Debug)]
+#[derive(Clone, Copy)]
 pub struct Field {
     pub name: &'static str,
     /// The width of a number in it, in bytes. A name over fields has the width 0.
@@ -32,7 +32,7 @@ pub struct Field {
 }
 
 /// What a search for a field found: its number among the fields, or the number after those that were searched.
-#[derive(Clone, Copy, Debug)]
+#[derive(Clone, Copy)]
 pub enum Search {
     Found(usize, Field),
     Missing(usize),

@@ -35,7 +35,7 @@ pub enum Fit {
 }
 
 /// The lines of a table or a structure, up to the next structure.
-#[derive(Clone, Copy, Debug)]
+#[derive(Clone, Copy)]
 pub struct Lines<'a> {
     pub text: &'a [u8],
     /// The structures within it, which come after its own lines.

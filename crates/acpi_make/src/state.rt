@@ -4,7 +4,7 @@ use crate::fault::Wanted;
 use crate::item::Item;
 
 /// Where the reader of a text is. A number is the place at which a heading, a name or a value begins.
-#[derive(Clone, Copy, Debug)]
+#[derive(Clone, Copy)]
 pub enum State {
     /// Where a line begins.
     Start,
@@ -43,7 +43,7 @@ pub enum State {
 }
 
 /// What a character does.
-#[derive(Clone, Copy, Debug)]
+#[derive(Clone, Copy)]
 pub enum Step {
     /// It ends nothing.
     Goes(State),

@@ -131,7 +131,7 @@ fn push_hint(look: Look, text: &mut String) -> Result<(), AllocError>
 
 // What a template has in place of zeros: the signature at offset 0, question marks at the offsets of numbers that are worked out,
 // and 1 at those of other numbers of what stands once.
-#[derive(Clone, Copy, Debug)]
+#[derive(Clone, Copy)]
 struct Known<'a> {
     signature: &'a str,
     own: &'a [usize],

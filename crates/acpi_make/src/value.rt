@@ -9,7 +9,7 @@ use crate::text::{after, decimal_of, hex_of};
 use acpi_base::row::{Bits, Look, Word};
 
 /// What names begin with.
-#[derive(Clone, Copy, Debug)]
+#[derive(Clone, Copy)]
 pub enum Names<'a> {
     /// No name that is known.
     Unnamed,

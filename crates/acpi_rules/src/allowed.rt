@@ -7,7 +7,7 @@ ghost use Rattle.acpi_rules.specs.Rules.{allowed_by, allows, any_allows};
 use crate::field::Field;
 
 /// Numbers that are allowed in a field.
-#[derive(Clone, Copy, Debug)]
+#[derive(Clone, Copy)]
 pub struct Allowed {
     /// The signature of the tables, or nothing for all tables.
     pub table: &'static str,

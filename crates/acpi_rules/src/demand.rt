@@ -4,7 +4,7 @@ use acpi_base::walk::Place;
 use acpi_text::form::Count;
 
 /// A field of a part of a table.
-#[derive(Clone, Copy, Debug)]
+#[derive(Clone, Copy)]
 pub struct Spot {
     /// The offset of the field from the first byte of the part.
     pub offset: u16,
@@ -15,7 +15,7 @@ pub struct Spot {
 }
 
 /// Parts of a table.
-#[derive(Clone, Copy, Debug)]
+#[derive(Clone, Copy)]
 pub enum Of {
     /// The whole table.
     Whole,
@@ -29,7 +29,7 @@ pub enum Of {
 }
 
 /// Which parts of a table count.
-#[derive(Clone, Copy, Debug)]
+#[derive(Clone, Copy)]
 pub enum When {
     /// All.
     Always,
@@ -40,7 +40,7 @@ pub enum When {
 }
 
 /// Some parts of a table.
-#[derive(Clone, Copy, Debug)]
+#[derive(Clone, Copy)]
 pub struct Among {
     /// The parts.
     pub of: Of,
@@ -49,7 +49,7 @@ pub struct Among {
 }
 
 /// What a rule demands of a field in each of some parts of a table.
-#[derive(Clone, Copy, Debug)]
+#[derive(Clone, Copy)]
 pub enum Demand {
     /// No two of the parts have the same bytes in the field.
     Differs,
@@ -107,7 +107,7 @@ pub enum Demand {
 }
 
 /// A rule on several fields of a table.
-#[derive(Clone, Copy, Debug)]
+#[derive(Clone, Copy)]
 pub struct Relation {
     /// The signature of the tables.
     pub table: &'static str,

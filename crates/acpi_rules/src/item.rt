@@ -21,7 +21,7 @@ use acpi_text::table::start_of;
 use std::alloc::{AllocError, Global};
 
 /// A part of a table of which a rule speaks.
-#[derive(Clone, Copy, Debug)]
+#[derive(Clone, Copy)]
 pub struct Item<'a> {
     /// The field of which the rule speaks.
     pub field: Field<'a>,

@@ -14,7 +14,7 @@ use acpi_text::part::number_at;
 use std::alloc::AllocError;
 
 /// A range of numbers in a field. The rule is only for tables in which the bits `mask` at `place` are the number `is`.
-#[derive(Clone, Copy, Debug)]
+#[derive(Clone, Copy)]
 pub struct Limit {
     /// The signature of the tables.
     pub table: &'static str,

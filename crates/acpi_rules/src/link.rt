@@ -3,7 +3,7 @@
 use crate::demand::{Among, Spot};
 
 /// A number in each of some parts of the tables of a signature.
-#[derive(Clone, Copy, Debug)]
+#[derive(Clone, Copy)]
 pub struct Column {
     /// The signature of the tables.
     pub table: &'static str,
@@ -16,7 +16,7 @@ pub struct Column {
 }
 
 /// What a rule demands of a number.
-#[derive(Clone, Copy, Debug)]
+#[derive(Clone, Copy)]
 pub enum Wanted {
     /// It is a number of one of these columns, if the machine has a table with the signature of one of them.
     OneOf(&'static [Column]),
@@ -28,7 +28,7 @@ pub enum Wanted {
 }
 
 /// A rule on numbers of one table of a machine, and those of others.
-#[derive(Clone, Copy, Debug)]
+#[derive(Clone, Copy)]
 pub struct Link {
     /// The numbers of which the rule speaks.
     pub column: Column,

@@ -14,7 +14,7 @@ use acpi_base::row::Look;
 use std::alloc::AllocError;
 
 /// Tables of a signature that a machine has once.
-#[derive(Clone, Copy, Debug)]
+#[derive(Clone, Copy)]
 pub struct Once {
     /// The signature of the tables.
     pub table: &'static str,
