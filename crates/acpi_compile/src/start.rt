@@ -445,7 +445,7 @@ fn names_first(node: &Node<'_>) -> bool {
 // An Acquire of a name, or of another object.
 fn acquire_start<'a, 'b>(alloc: Global, node: &'b Node<'a>) -> Result<Start<'a, 'b>, AslError> {
     if names_first(node) {
-        return whole(acquire(alloc, node));
+        return Ok(Start::Whole(acquire(alloc, node)?));
     }
     operator_start(Op::Acquire, node)
 }
@@ -453,7 +453,7 @@ fn acquire_start<'a, 'b>(alloc: Global, node: &'b Node<'a>) -> Result<Start<'a, 
 // A Release of a name, or of another object.
 fn release_start<'a, 'b>(alloc: Global, node: &'b Node<'a>) -> Result<Start<'a, 'b>, AslError> {
     if names_first(node) {
-        return whole(release(alloc, node));
+        return Ok(Start::Whole(release(alloc, node)?));
     }
     operator_start(Op::Release, node)
 }
@@ -477,9 +477,9 @@ pub fn call_with(name: NameString, args: SizedList) -> Sized {
 
 // ---- all of them
 
-// The terms that begin with a word of their own and are no operators.
+// A term whose word begins a list of statements.
 #[derive(Clone, Copy)]
-enum Kind {
+enum BlockKind {
     Scope,
     Device,
     ThermalZone,
@@ -487,50 +487,61 @@ enum Kind {
     Processor,
     PowerResource,
     Else,
-    If,
-    While,
-    Name,
-    Region,
+}
+
+// A term with no terms inside.
+#[derive(Clone, Copy)]
+enum WholeKind {
     Field,
     IndexField,
-    BankField,
     External,
     Mutex,
-    Acquire,
-    Release,
-    Fatal,
-    Package,
-    Buffer,
     Template,
     Uuid,
     EisaId,
 }
 
+// A term that begins with a word of its own and is no operator.
+#[derive(Clone, Copy)]
+enum Kind {
+    Block(BlockKind),
+    Whole(WholeKind),
+    FirstAndList(FirstAndList),
+    Name,
+    Region,
+    BankField,
+    Acquire,
+    Release,
+    Fatal,
+    Package,
+    Buffer,
+}
+
 const KINDS: [(&str, Kind); 24] = [
-    ("Scope", Kind::Scope),
-    ("Device", Kind::Device),
-    ("ThermalZone", Kind::ThermalZone),
-    ("Method", Kind::Method),
-    ("Processor", Kind::Processor),
-    ("PowerResource", Kind::PowerResource),
-    ("Else", Kind::Else),
-    ("If", Kind::If),
-    ("While", Kind::While),
+    ("Scope", Kind::Block(BlockKind::Scope)),
+    ("Device", Kind::Block(BlockKind::Device)),
+    ("ThermalZone", Kind::Block(BlockKind::ThermalZone)),
+    ("Method", Kind::Block(BlockKind::Method)),
+    ("Processor", Kind::Block(BlockKind::Processor)),
+    ("PowerResource", Kind::Block(BlockKind::PowerResource)),
+    ("Else", Kind::Block(BlockKind::Else)),
+    ("If", Kind::FirstAndList(FirstAndList::If)),
+    ("While", Kind::FirstAndList(FirstAndList::While)),
     ("Name", Kind::Name),
     ("OperationRegion", Kind::Region),
-    ("Field", Kind::Field),
-    ("IndexField", Kind::IndexField),
+    ("Field", Kind::Whole(WholeKind::Field)),
+    ("IndexField", Kind::Whole(WholeKind::IndexField)),
     ("BankField", Kind::BankField),
-    ("External", Kind::External),
-    ("Mutex", Kind::Mutex),
+    ("External", Kind::Whole(WholeKind::External)),
+    ("Mutex", Kind::Whole(WholeKind::Mutex)),
     ("Acquire", Kind::Acquire),
     ("Release", Kind::Release),
     ("Fatal", Kind::Fatal),
     ("Package", Kind::Package),
     ("Buffer", Kind::Buffer),
-    ("ResourceTemplate", Kind::Template),
-    ("ToUUID", Kind::Uuid),
-    ("EisaId", Kind::EisaId),
+    ("ResourceTemplate", Kind::Whole(WholeKind::Template)),
+    ("ToUUID", Kind::Whole(WholeKind::Uuid)),
+    ("EisaId", Kind::Whole(WholeKind::EisaId)),
 ];
 
 fn kind_of(word: &[u8]) -> Option<Kind> {
@@ -542,12 +553,44 @@ fn kind_of(word: &[u8]) -> Option<Kind> {
     None
 }
 
-fn block_start<'a, 'b>(block: Result<Block, AslError>) -> Result<Start<'a, 'b>, AslError> {
-    Ok(Start::Block(block?))
+fn block_of(alloc: Global, kind: BlockKind, node: &Node<'_>) -> Result<Block, AslError> {
+    match kind {
+        BlockKind::Scope => scope(alloc, node),
+        BlockKind::Device => device(alloc, node),
+        BlockKind::ThermalZone => thermal_zone(alloc, node),
+        BlockKind::Method => method(alloc, node),
+        BlockKind::Processor => processor(alloc, node),
+        BlockKind::PowerResource => power_resource(alloc, node),
+        BlockKind::Else => otherwise(node),
+    }
 }
 
-fn whole<'a, 'b>(sized: Result<Sized, AslError>) -> Result<Start<'a, 'b>, AslError> {
-    Ok(Start::Whole(sized?))
+fn block_start<'a, 'b>(
+    alloc: Global,
+    kind: BlockKind,
+    node: &'b Node<'a>,
+) -> Result<Start<'a, 'b>, AslError> {
+    Ok(Start::Block(block_of(alloc, kind, node)?))
+}
+
+fn whole_of(alloc: Global, kind: WholeKind, node: &Node<'_>) -> Result<Sized, AslError> {
+    match kind {
+        WholeKind::Field => field(alloc, node),
+        WholeKind::IndexField => index_field(alloc, node),
+        WholeKind::External => external(alloc, node),
+        WholeKind::Mutex => mutex(alloc, node),
+        WholeKind::Template => template_term(alloc, node),
+        WholeKind::Uuid => uuid(alloc, node),
+        WholeKind::EisaId => eisa(alloc, node),
+    }
+}
+
+fn whole_start<'a, 'b>(
+    alloc: Global,
+    kind: WholeKind,
+    node: &'b Node<'a>,
+) -> Result<Start<'a, 'b>, AslError> {
+    Ok(Start::Whole(whole_of(alloc, kind, node)?))
 }
 
 fn start_by<'a, 'b>(
@@ -556,30 +599,17 @@ fn start_by<'a, 'b>(
     node: &'b Node<'a>,
 ) -> Result<Start<'a, 'b>, AslError> {
     match kind {
-        Kind::Scope => block_start(scope(alloc, node)),
-        Kind::Device => block_start(device(alloc, node)),
-        Kind::ThermalZone => block_start(thermal_zone(alloc, node)),
-        Kind::Method => block_start(method(alloc, node)),
-        Kind::Processor => block_start(processor(alloc, node)),
-        Kind::PowerResource => block_start(power_resource(alloc, node)),
-        Kind::Else => block_start(otherwise(node)),
-        Kind::If => first_and_list(FirstAndList::If, node),
-        Kind::While => first_and_list(FirstAndList::While, node),
+        Kind::Block(kind) => block_start(alloc, kind, node),
+        Kind::Whole(kind) => whole_start(alloc, kind, node),
+        Kind::FirstAndList(kind) => first_and_list(kind, node),
         Kind::Name => named(alloc, node),
         Kind::Region => region(alloc, node),
-        Kind::Field => whole(field(alloc, node)),
-        Kind::IndexField => whole(index_field(alloc, node)),
         Kind::BankField => bank_field(alloc, node),
-        Kind::External => whole(external(alloc, node)),
-        Kind::Mutex => whole(mutex(alloc, node)),
         Kind::Acquire => acquire_start(alloc, node),
         Kind::Release => release_start(alloc, node),
         Kind::Fatal => fatal(node),
         Kind::Package => package(node),
         Kind::Buffer => sized_buffer(alloc, node),
-        Kind::Template => whole(template_term(alloc, node)),
-        Kind::Uuid => whole(uuid(alloc, node)),
-        Kind::EisaId => whole(eisa(alloc, node)),
     }
 }
 
@@ -596,18 +626,15 @@ fn keyword_start<'a, 'b>(
     }
 }
 
-// The start of a term that isn't a constant.
-fn word_start<'a, 'b>(
-    context: &Context,
-    node: &'b Node<'a>,
-) -> Result<Start<'a, 'b>, AslError> {
+// A string, a number, or a constant, a local object or an argument.
+fn simple(alloc: Global, node: &Node<'_>) -> Result<Option<Sized>, AslError> {
+    if let Some(term) = constant(node) {
+        return Ok(Some(alone(node, term)?));
+    }
     match node.word.first() {
-        None if node.is_absent() => Err(fault(node.at, Why::Unexpected)),
-        None => Err(wrong(node)),
-        Some(b'"') => whole(text_term(context.alloc, node)),
-        Some(b'0'..=b'9') => whole(number_term(node)),
-        _ if is_keyword(node.word) => keyword_start(context, node),
-        _ => call(context.alloc, node),
+        Some(b'"') => Ok(Some(text_term(alloc, node)?)),
+        Some(b'0'..=b'9') => Ok(Some(number_term(node)?)),
+        _ => Ok(None),
     }
 }
 
@@ -616,8 +643,17 @@ pub fn start_of<'a, 'b>(context: &Context, node: &'b Node<'a>) -> Result<Start<'
     if !node.has_known_note() {
         return Err(fault(node.note_at(), Why::Note));
     }
-    match constant(node) {
-        Some(term) => whole(alone(node, term)),
-        None => word_start(context, node),
+    if node.is_absent() {
+        return Err(fault(node.at, Why::Unexpected));
     }
+    if node.word.is_empty() {
+        return Err(wrong(node));
+    }
+    if let Some(sized) = simple(context.alloc, node)? {
+        return Ok(Start::Whole(sized));
+    }
+    if is_keyword(node.word) {
+        return keyword_start(context, node);
+    }
+    call(context.alloc, node)
 }

@@ -126,7 +126,6 @@ fn push_rules(
 }
 
 // Adds the references of a table.
-#[tactic(auto, unfolding(acpi_rules::specs::Standard::referred))]
 fn push_referred(
     alloc: Global,
     walk: Walk,

@@ -89,7 +89,6 @@ fn push_links<'a>(
 }
 
 // Adds the numbers of processors and of proximity domains in a SRAT.
-#[tactic(auto, unfolding(acpi_rules::specs::Machine::affinities))]
 fn push_affinities<'a>(
     alloc: Global,
     table: &'a [u8],
@@ -102,7 +101,6 @@ fn push_affinities<'a>(
 }
 
 // Adds the numbers of another table.
-#[tactic(auto, unfolding(acpi_rules::specs::Machine::named))]
 fn push_named<'a>(
     alloc: Global,
     table: &'a [u8],

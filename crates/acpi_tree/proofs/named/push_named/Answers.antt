@@ -1,0 +1,6 @@
+use Rattle.acpi_tree.proofs.named.push_named.Goals as goal
+
+-- The rows of the definition are those of the code.
+pub returns : goal.returns
+unfolding Rattle.acpi_rules.specs.Machine.named
+returns c = c.push_links.ensures
