@@ -5,9 +5,7 @@ use crate::fault::{AslFault, Why};
 use crate::node::{Node, list_of};
 use crate::number::{decimal, hex};
 use crate::stated::{has_entries, last, node_made};
-use crate::word::{
-    argument_of, byte_of, is_among, is_name, local_of, operator, operators,
-};
+use crate::word::{argument_of, byte_of, is_among, is_name, local_of, operator, operators};
 use acpi_asl::place::targets;
 use acpi_base::slice::from_offset;
 use acpi_term::op::Op;

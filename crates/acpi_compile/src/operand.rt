@@ -56,10 +56,7 @@ pub fn check_operands(op: Op, node: &Node<'_>) -> Result<(), AslError> {
     Ok(())
 }
 
-fn test<'a, 'b>(
-    keyword: &'b Node<'a>,
-    operand: &'b Node<'a>,
-) -> Result<Operand<'a, 'b>, AslError> {
+fn test<'a, 'b>(keyword: &'b Node<'a>, operand: &'b Node<'a>) -> Result<Operand<'a, 'b>, AslError> {
     let code = keyword_at(Keyword::MatchOperator, keyword)?;
     Ok(Operand::Test(code, operand))
 }
@@ -90,7 +87,11 @@ fn acquire_operand<'a, 'b>(node: &'b Node<'a>, i: usize) -> Result<Operand<'a, '
 }
 
 /// An operand of an operator by its number. A target that is left out is a NullName, whose byte is that of Zero.
-pub fn operand_at<'a, 'b>(op: Op, node: &'b Node<'a>, i: usize) -> Result<Operand<'a, 'b>, AslError> {
+pub fn operand_at<'a, 'b>(
+    op: Op,
+    node: &'b Node<'a>,
+    i: usize,
+) -> Result<Operand<'a, 'b>, AslError> {
     match op {
         Op::Match => return match_operand(node, i),
         Op::Acquire => return acquire_operand(node, i),

@@ -272,7 +272,9 @@ fn banked(
     value: Sized,
 ) -> Result<Sized, AslError> {
     let named = plus(&names.name, plus(&names.selector, 1));
-    let content = named.saturating_add(value.size).saturating_add(entries.size);
+    let content = named
+        .saturating_add(value.size)
+        .saturating_add(entries.size);
     let (width, size) = frame(node, 2, content)?;
     let term = Term::BankField {
         width,
@@ -332,7 +334,9 @@ pub fn region_with(
     offset: Sized,
     length: Sized,
 ) -> Result<Sized, AslError> {
-    let size = plus(&name, 3).saturating_add(offset.size).saturating_add(length.size);
+    let size = plus(&name, 3)
+        .saturating_add(offset.size)
+        .saturating_add(length.size);
     let offset = Box::new(alloc, offset.term)?;
     let length = Box::new(alloc, length.term)?;
     let term = Term::OpRegion {
@@ -613,10 +617,7 @@ fn start_by<'a, 'b>(
     }
 }
 
-fn keyword_start<'a, 'b>(
-    context: &Context,
-    node: &'b Node<'a>,
-) -> Result<Start<'a, 'b>, AslError> {
+fn keyword_start<'a, 'b>(context: &Context, node: &'b Node<'a>) -> Result<Start<'a, 'b>, AslError> {
     if let Some(kind) = kind_of(node.word) {
         return start_by(context.alloc, kind, node);
     }
