@@ -14,7 +14,7 @@ pub enum Cell {
 
 /// A part of a text. A range is two places, and a place is the number of characters from it to the text's end: the place of its
 /// first character, and the place after its last.
-#[derive(Clone, Copy)]
+#[derive(Clone, Copy, Debug)]
 pub enum Item {
     /// A byte.
     Cell(Cell),
