@@ -1,5 +1,5 @@
 -- Names that become known, and External statements, item by item.
-use Rattle.std.proofs.Common.{◌≡◌, ℕ, zero, suc, ◌+◌, ◌-◌, ◌/◌, ◌<◌, ◌≤◌, ◌==◌, ◌&&◌, ◌||◌, min, if◌then◌else◌, Bool, true, false, Option, Some, None, List, [], ◌∷◌, ◌++◌, length, map, get_or, drop, refl, sym, ap, subst, ◌∙◌, append_assoc, arith}
+use Rattle.std.proofs.Common.{◌≡◌, ℕ, zero, suc, ◌+◌, ◌-◌, ◌/◌, ◌<◌, ◌≤◌, ◌==◌, ◌&&◌, ◌||◌, min, if◌then◌else◌, Bool, true, false, Option, Some, None, is_some, List, [], ◌∷◌, ◌++◌, length, map, get_or, drop, refl, sym, ap, subst, ◌∙◌, append_assoc, arith}
 use Rattle.std.proofs.lemmas.Bool.{and_parts}
 use Rattle.std.proofs.lemmas.List.{append-nil, length-append}
 use Rattle.acpi_read.proofs.Lines.{count_views}
@@ -15,11 +15,11 @@ use Rattle.acpi_term.specs.PathText.{name_of_segments}
 use Rattle.acpi_terms_text.proofs.Relative.{one_scope_less}
 use Rattle.acpi_terms_text.proofs.Wholes.{first_false, second_false}
 use Rattle.acpi_asl.specs.Namespace.{named_by}
-use Rattle.acpi_asl.specs.Absent.{Known, finds, is_found, absent, Item, made, used, made_named, made_operand, made_units, made_items, made_around, around_items, scope_items, is_call, method_items, connection_items, other_items, left_after, own_items, items, all_items, uses_name, absent_line, known_by, line, known_after, lines, AreAdded, first_objects, absent_text, are_found, own_found, all_found}
+use Rattle.acpi_asl.specs.Absent.{Known, finds, is_found, absent, Item, made, used, made_named, made_operand, made_units, made_items, made_around, around_items, scope_items, is_call, method_items, connection_items, other_items, left_after, own_items, items, all_items, uses_name, absent_line, known_by, line, known_after, lines, AreAdded, first_objects, absent_text, are_found, own_found, all_found, made_in, path_made, made_by_path, parent_items}
 use Rattle.std.specs.Str.{bytes_eq}
 use Rattle.acpi_asl.specs.Paths.{has}
 use Rattle.acpi_asl.specs.declared.absent.Pass.{Pass}
-use Rattle.acpi_asl.specs.declared.absent.Pass.TheVariants.{Objects, Scopes, Methods, Around, Others}
+use Rattle.acpi_asl.specs.declared.absent.Pass.TheVariants.{Objects, Scopes, Methods, Around, Parents, Others}
 use Rattle.acpi_asl.specs.declared.place.Body.TheVariants.{Statements}
 use Rattle.acpi_asl.specs.declared.place.Place.{Place}
 use Rattle.acpi_asl.specs.Place.{place, next, in_braces}
@@ -256,6 +256,8 @@ found_both all (made path ∷ a) b = found_both all a b
 found_both all (used scope name kind args ∷ a) b =
     let here = is_found all scope name in
     ap (λ (t : Bool). here && t) (found_both all a b) ∙ and_joined here (are_found all a) (are_found all b)
+found_both all (made_in path ∷ a) b =
+    ap (λ (t : Bool). has all path && t) (found_both all a b) ∙ and_joined (has all path) (are_found all a) (are_found all b)
 
 found_joined : (all : Known) (a b : List Item) → are_found all a ≡ true → are_found all b ≡ true → are_found all (a ++ b) ≡ true
 found_joined all a b first second = found_both all a b ∙ and_true (are_found all a) (are_found all b) first second
@@ -302,6 +304,12 @@ found_silent few all (used scope name kind args ∷ is) known found =
     let more = all ++ absent scope name ∷ [] in
     ap (λ (b : Bool). (if b then [] else text) ++ lines (if b then all else more) is) (found_too few all known scope name both.0)
     ∙ found_silent few all is known both.1
+found_silent few all (made_in path ∷ is) known found =
+    let both = and_parts (has few path) (are_found few is) found in
+    let text = absent_line 6 0 (name_of_segments true path) in
+    let more = all ++ path ∷ [] in
+    ap (λ (b : Bool). (if b then [] else text) ++ lines (if b then all else more) is) (known path both.0)
+    ∙ found_silent few all is known both.1
 
 -- objects have none
 silent : (all : Known) (is : List Item) → are_found [] is ≡ true → lines all is ≡ []
@@ -344,14 +352,24 @@ module _ (all : Known) where
       elim (is_call at n) as (λ b. are_found all (if b then used scope name 8 (min n 7) ∷ [] else []) ≡ true) [ true ↦ found | false ↦ refl ]
   calls_found at scope h n found = refl
 
+  -- those of the scopes that a head opens, of the scope in which it makes an object, and of the others
+  parts_found : (scope : List ℕ) (h : Head) → own_found all scope h ≡ true
+      → (are_found all (scope_items scope h) ≡ true)
+      × ((are_found all (parent_items scope h) ≡ true) × (are_found all (other_items scope h) ≡ true))
+  parts_found scope h found =
+      let parents = are_found all (parent_items scope h) in
+      let others = are_found all (other_items scope h) in
+      let both = and_parts (are_found all (scope_items scope h)) (parents && others) found in
+      (both.0, and_parts parents others both.1)
+
   own_items_found : (p : Pass) (at : Place) (scope : List ℕ) (h : Head) (c : Terms) → own_found all scope h ≡ true
       → are_found all (own_items p at scope h c) ≡ true
   own_items_found Objects at scope h c found = made_found scope h c
   own_items_found Around at scope h c found = external_found scope h
-  own_items_found Scopes at scope h c found = (and_parts (are_found all (scope_items scope h)) (are_found all (other_items scope h)) found).0
-  own_items_found Methods at scope h c found =
-      calls_found at scope h (count c) (and_parts (are_found all (scope_items scope h)) (are_found all (other_items scope h)) found).1
-  own_items_found Others at scope h c found = (and_parts (are_found all (scope_items scope h)) (are_found all (other_items scope h)) found).1
+  own_items_found Scopes at scope h c found = (parts_found scope h found).0
+  own_items_found Methods at scope h c found = calls_found at scope h (count c) (parts_found scope h found).1.1
+  own_items_found Parents at scope h c found = (parts_found scope h found).1.0
+  own_items_found Others at scope h c found = (parts_found scope h found).1.1
 
   items_found : (p : Pass) (at : Place) (scope : List ℕ) (ts : Terms) → all_found all scope ts ≡ true → are_found all (items p at scope ts) ≡ true
   items_found p at scope end found = refl
@@ -364,6 +382,11 @@ module _ (all : Known) where
       found_joined all own (inner ++ others) (own_items_found p at scope h c first.0)
       (found_joined all inner others (items_found p (place h (count c)) (inside scope h) c second.0) (items_found p (next at false) scope o second.1))
 
+  -- no object is made by a path
+  unmade_found : (scope : List ℕ) (path : Option (List ℕ)) → is_some path ≡ false → (are_found all (made_by_path scope path) && true) ≡ true
+  unmade_found scope None none = refl
+  unmade_found scope (Some path) none = absurd cc
+
   -- a head that uses no name
   own_unused : (scope : List ℕ) (h : Head) → uses_name h ≡ false → own_found all scope h ≡ true
   own_unused scope (def_scope name) none = absurd cc
@@ -373,7 +396,7 @@ module _ (all : Known) where
   own_unused scope (def_bank_field name bank access lock update entries) none = absurd cc
   own_unused scope (def_acquire name timeout) none = absurd cc
   own_unused scope (def_release name) none = absurd cc
-  own_unused scope h none = refl
+  own_unused scope h none = unmade_found scope (path_made h) none
 
   unused_found : (scope : List ℕ) (ts : Terms) → any uses_name ts ≡ false → all_found all scope ts ≡ true
   unused_found scope end none = refl
@@ -411,23 +434,25 @@ method_added p at scope h a b n old new before after methods is added =
 first_added : (text : List ℕ) → AreAdded first_objects [] (known_after [] first_objects) text text
 first_added text = record { known = refl; text = sym (append-nil text) }
 
-pub all_added : (ts : Terms) (k0 k1 k2 k3 k4 k5 : Known) (t0 t1 t2 t3 t4 t5 : List ℕ) → k0 ≡ known_after [] first_objects
+pub all_added : (ts : Terms) (k0 k1 k2 k3 k4 k5 k6 : Known) (t0 t1 t2 t3 t4 t5 t6 : List ℕ) → k0 ≡ known_after [] first_objects
     → AreAdded (all_items Objects ts) k0 k1 t0 t1 → AreAdded (all_items Scopes ts) k1 k2 t1 t2
     → AreAdded (all_items Methods ts) k2 k3 t2 t3 → AreAdded (all_items Around ts) k3 k4 t3 t4
-    → AreAdded (all_items Others ts) k4 k5 t4 t5 → t5 ≡ t0 ++ absent_text ts
+    → AreAdded (all_items Parents ts) k4 k5 t4 t5 → AreAdded (all_items Others ts) k5 k6 t5 t6 → t6 ≡ t0 ++ absent_text ts
 unfolding absent_text
-all_added ts k0 k1 k2 k3 k4 k5 t0 t1 t2 t3 t4 t5 first a b c d e =
+all_added ts k0 k1 k2 k3 k4 k5 k6 t0 t1 t2 t3 t4 t5 t6 first a b c d e f =
     let objects = all_items Objects ts in
     let scopes = all_items Scopes ts in
     let methods = all_items Methods ts in
     let around = all_items Around ts in
+    let parents = all_items Parents ts in
     let others = all_items Others ts in
-    let last = added_both around others k3 k4 k5 t3 t4 t5 d e in
-    let calls = added_both methods (around ++ others) k2 k3 k5 t2 t3 t5 c last in
-    let uses = added_both scopes (methods ++ (around ++ others)) k1 k2 k5 t1 t2 t5 b calls in
-    let all = added_both objects (scopes ++ (methods ++ (around ++ others))) k0 k1 k5 t0 t1 t5 a uses in
+    let last = added_both parents others k4 k5 k6 t4 t5 t6 e f in
+    let declared = added_both around (parents ++ others) k3 k4 k6 t3 t4 t6 d last in
+    let calls = added_both methods (around ++ (parents ++ others)) k2 k3 k6 t2 t3 t6 c declared in
+    let uses = added_both scopes (methods ++ (around ++ (parents ++ others))) k1 k2 k6 t1 t2 t6 b calls in
+    let all = added_both objects (scopes ++ (methods ++ (around ++ (parents ++ others)))) k0 k1 k6 t0 t1 t6 a uses in
     let begun = subst (λ (k : Known). AreAdded first_objects [] k t0 t0) (sym first) (first_added t0) in
-    (added_both first_objects (objects ++ (scopes ++ (methods ++ (around ++ others)))) [] k0 k5 t0 t0 t5 begun all).text
+    (added_both first_objects (objects ++ (scopes ++ (methods ++ (around ++ (parents ++ others))))) [] k0 k6 t0 t0 t6 begun all).text
 
 -- the objects of a block
 abbrev known_in : Terms → Known
@@ -452,14 +477,18 @@ block_silent ts found =
     let scopes = all_items Scopes ts in
     let methods = all_items Methods ts in
     let around = all_items Around ts in
+    let parents = all_items Parents ts in
     let others = all_items Others ts in
-    let last = found_joined known around others (items_found known Around (in_braces Statements) [] ts found) (items_found known Others (in_braces Statements) [] ts found) in
-    let calls = found_joined known methods (around ++ others) (items_found known Methods (in_braces Statements) [] ts found) last in
-    let uses = found_joined known scopes (methods ++ (around ++ others)) (items_found known Scopes (in_braces Statements) [] ts found) calls in
-    lines_both [] first_objects (objects ++ (scopes ++ (methods ++ (around ++ others))))
-    ∙ lines_both first objects (scopes ++ (methods ++ (around ++ others)))
-    ∙ ap (λ (l : List ℕ). l ++ lines known (scopes ++ (methods ++ (around ++ others)))) (silent first objects (objects_found Objects (in_braces Statements) [] ts refl))
-    ∙ found_silent known known (scopes ++ (methods ++ (around ++ others))) (λ w h. h) uses
+    let each : (p : Pass) → are_found known (all_items p ts) ≡ true = λ p. items_found known p (in_braces Statements) [] ts found in
+    let last = found_joined known parents others (each Parents) (each Others) in
+    let declared = found_joined known around (parents ++ others) (each Around) last in
+    let calls = found_joined known methods (around ++ (parents ++ others)) (each Methods) declared in
+    let after = scopes ++ (methods ++ (around ++ (parents ++ others))) in
+    let uses = found_joined known scopes (methods ++ (around ++ (parents ++ others))) (each Scopes) calls in
+    lines_both [] first_objects (objects ++ after)
+    ∙ lines_both first objects after
+    ∙ ap (λ (l : List ℕ). l ++ lines known after) (silent first objects (objects_found Objects (in_braces Statements) [] ts refl))
+    ∙ found_silent known known after (λ w h. h) uses
 
 pub none_added : (ts : Terms) (text : List ℕ) → any uses_name ts ≡ false → text ≡ text ++ absent_text ts
 none_added ts text none =

@@ -1,6 +1,6 @@
 -- The names of a block for which it has no object. A compiler takes them with an External statement (ACPI 6.5, 5.3 and 19.6.45).
 use Rattle.std.specs.Prelude.{◌≡◌, ℕ, zero, suc, ◌/◌, ◌==◌, ◌&&◌, ◌||◌, not, min, Bool, true, false, if◌then◌else◌, Option}
-use Rattle.std.specs.Prelude.{Some, None, List, [], ◌∷◌, ◌++◌, length, codes}
+use Rattle.std.specs.Prelude.{Some, None, is_some, List, [], ◌∷◌, ◌++◌, length, codes}
 use Rattle.acpi_term.specs.PathText.{name_of_segments}
 use Rattle.acpi_term.specs.Tree.{Head, def_scope, def_device, def_method, def_power_res, def_field, def_op_region, def_name}
 use Rattle.acpi_term.specs.Tree.{def_mutex, def_acquire, def_release, call, op, def_external, def_leveled_method, def_processor}
@@ -13,7 +13,7 @@ use Rattle.acpi_asl.specs.Opening.{own}
 use Rattle.acpi_asl.specs.Paths.{has}
 use Rattle.acpi_asl.specs.Place.{place, next, in_braces, is_statement, new_line}
 use Rattle.acpi_asl.specs.declared.absent.Pass.{Pass}
-use Rattle.acpi_asl.specs.declared.absent.Pass.TheVariants.{Objects, Scopes, Methods, Around, Others}
+use Rattle.acpi_asl.specs.declared.absent.Pass.TheVariants.{Objects, Scopes, Methods, Around, Parents, Others}
 use Rattle.acpi_asl.specs.declared.place.Body.TheVariants.{Statements}
 use Rattle.acpi_asl.specs.declared.place.Place.{Place}
 
@@ -44,6 +44,8 @@ pub data Item : Type 0 where
   made : List ℕ → Item
   -- a name in a scope, of an object of this type with so many arguments
   used : List ℕ → List ℕ → ℕ → ℕ → Item
+  -- an object in the scope of this path
+  made_in : List ℕ → Item
 
 abbrev pub made_named : List ℕ → Option (List ℕ) → List Item
 made_named scope None = []
@@ -85,6 +87,31 @@ made_around (suc n) path = made (parent path) ∷ made_around n (parent path)
 abbrev pub around_items : List ℕ → Head → List Item
 around_items scope (def_external name kind args) = made_around (length (path_in scope name) / 4) (path_in scope name)
 around_items scope _ = []
+
+-- a name that is more than a segment
+abbrev pub as_path : List ℕ → Option (List ℕ)
+as_path name = if length name == 4 then None else Some name
+
+-- the path by which a head makes an object in another scope than its own
+abbrev pub path_made : Head → Option (List ℕ)
+path_made (def_name name) = as_path name
+path_made (def_device name) = as_path name
+path_made (def_method name args serialized) = as_path name
+path_made (def_leveled_method name args serialized level) = as_path name
+path_made (def_mutex name level) = as_path name
+path_made (def_op_region name space) = as_path name
+path_made (def_power_res name level order) = as_path name
+path_made (def_processor name id address size) = as_path name
+path_made (def_thermal_zone name) = as_path name
+path_made _ = None
+
+abbrev pub made_by_path : List ℕ → Option (List ℕ) → List Item
+made_by_path scope None = []
+made_by_path scope (Some name) = made_in (parent (path_in scope name)) ∷ []
+
+-- the other scope in which a head makes an object
+abbrev pub parent_items : List ℕ → Head → List Item
+parent_items scope h = made_by_path scope (path_made h)
 
 -- the scopes that a head opens, as devices
 abbrev pub scope_items : List ℕ → Head → List Item
@@ -128,6 +155,7 @@ own_items Objects at scope h children = made_items scope h children
 own_items Scopes at scope h children = scope_items scope h
 own_items Methods at scope h children = method_items at scope h (count children)
 own_items Around at scope h children = around_items scope h
+own_items Parents at scope h children = parent_items scope h
 own_items Others at scope h children = other_items scope h
 
 -- those of terms in a scope, of which the first stands in this place
@@ -141,7 +169,7 @@ items p at scope (term h w children others) =
 abbrev pub all_items : Pass → Terms → List Item
 all_items p ts = items p (in_braces Statements) [] ts
 
--- whether a head names an object that something else makes
+-- whether a head names an object that something else makes, or makes one in another scope
 abbrev pub uses_name : Head → Bool
 uses_name (def_scope name) = true
 uses_name (call name) = true
@@ -150,7 +178,7 @@ uses_name (def_index_field index name access lock update entries) = true
 uses_name (def_bank_field name bank access lock update entries) = true
 uses_name (def_acquire name timeout) = true
 uses_name (def_release name) = true
-uses_name _ = false
+uses_name h = is_some (path_made h)
 
 -- ---- External statements
 
@@ -164,12 +192,14 @@ absent_line kind args (Some name) =
 abbrev pub known_by : Known → Item → Known
 known_by all (made path) = all ++ path ∷ []
 known_by all (used scope name kind args) = if is_found all scope name then all else all ++ absent scope name ∷ []
+known_by all (made_in path) = if has all path then all else all ++ path ∷ []
 
 -- the statement for an item
 abbrev pub line : Known → Item → List ℕ
 line all (made path) = []
 line all (used scope name kind args) =
     if is_found all scope name then [] else absent_line kind args (name_of_segments true (absent scope name))
+line all (made_in path) = if has all path then [] else absent_line 6 0 (name_of_segments true path)
 
 abbrev pub known_after : Known → List Item → Known
 known_after all [] = all
@@ -190,13 +220,14 @@ first_objects =
     made [] ∷ made (codes "_GPE") ∷ made (codes "_PR_") ∷ made (codes "_SB_") ∷ made (codes "_SI_") ∷ made (codes "_TZ_")
     ∷ made (codes "_GL_") ∷ made (codes "_OS_") ∷ made (codes "_OSI") ∷ made (codes "_REV") ∷ []
 
--- All objects of a block first, and then what it uses: the scopes, which have to be devices, the methods, and the others, which
--- may be scopes around an object of another block.
+-- All objects of a block first, and then what it uses: the scopes, which have to be devices, the methods, the scopes in which it
+-- makes objects by a path, and the others. The last two may be scopes around an object of another block.
 abbrev pub block_items : Terms → List Item
 block_items ts =
     first_objects
     ++ (all_items Objects ts
-    ++ (all_items Scopes ts ++ (all_items Methods ts ++ (all_items Around ts ++ all_items Others ts))))
+    ++ (all_items Scopes ts
+    ++ (all_items Methods ts ++ (all_items Around ts ++ (all_items Parents ts ++ all_items Others ts)))))
 
 -- the External statements for the names of a block for which it has no object
 unfoldable pub absent_text : Terms → List ℕ
@@ -208,10 +239,12 @@ abbrev pub are_found : Known → List Item → Bool
 are_found all [] = true
 are_found all (made path ∷ is) = are_found all is
 are_found all (used scope name kind args ∷ is) = is_found all scope name && are_found all is
+are_found all (made_in path ∷ is) = has all path && are_found all is
 
 -- whether those that a head uses do
 abbrev pub own_found : Known → List ℕ → Head → Bool
-own_found all scope h = are_found all (scope_items scope h) && are_found all (other_items scope h)
+own_found all scope h =
+    are_found all (scope_items scope h) && (are_found all (parent_items scope h) && are_found all (other_items scope h))
 
 -- Whether those that terms in a scope use do. Then there are no External statements (`block_silent`).
 abbrev pub all_found : Known → List ℕ → Terms → Bool

@@ -1,5 +1,5 @@
 -- EISA ids (ACPI 6.5, 19.3.4 and 19.6.37).
-use Rattle.std.specs.Prelude.{ℕ, ◌+◌, ◌/◌, ◌%◌, ◌^◌, nat_le, nat_lt, ◌==◌, ◌&&◌, Bool, List, [], ◌∷◌, ◌++◌, codes}
+use Rattle.std.specs.Prelude.{ℕ, ◌^◌, nat_lt, ◌==◌, ◌&&◌, Bool, List, ◌++◌, codes}
 use Rattle.std.specs.Int.{w32, swap_bytes}
 use Rattle.acpi_asl.specs.Number.{digits_of}
 use Rattle.acpi_terms_text.specs.Eisa.{is_id, letters}

@@ -1,6 +1,6 @@
 //! External statements for the names of a block for which it has no object (ACPI 6.5, 5.3 and 19.6.45).
 
-ghost use Rattle.std.specs.Prelude.{◌≡◌, ◌+◌, ◌/◌, ◌++◌, length, [], ◌∷◌, true, Some, map, IfOk, OnOk, string_bytes};
+ghost use Rattle.std.specs.Prelude.{◌≡◌, ◌+◌, ◌/◌, ◌++◌, length, [], ◌∷◌, true, Some, map, option_map, IfOk, OnOk, string_bytes};
 ghost use Rattle.acpi_term.specs.PathText.{name_of_segments};
 ghost use Rattle.acpi_term.specs.View.{entry_view, head_of, view, views, single};
 ghost use Rattle.acpi_terms_text.specs.Path.{path_in};
@@ -9,6 +9,7 @@ ghost use Rattle.acpi_asl.specs.Absent.{finds, is_found, absent, made, used, mad
 ghost use Rattle.acpi_asl.specs.Namespace.{named_by};
 ghost use Rattle.acpi_asl.specs.Absent.{made_units, made_items, made_around, around_items, scope_items, is_call};
 ghost use Rattle.acpi_asl.specs.Absent.{method_items, connection_items, other_items, own_items, items, all_items, left_after};
+ghost use Rattle.acpi_asl.specs.Absent.{made_in, as_path, path_made, made_by_path, parent_items};
 ghost use Rattle.acpi_asl.specs.Absent.{uses_name, absent_line, known_by, known_after, AreAdded, first_objects};
 ghost use Rattle.acpi_asl.specs.Absent.{are_found, own_found, all_found, absent_text};
 
@@ -35,6 +36,8 @@ enum Pass {
     Methods,
     // The scopes around the objects of other blocks that they declare.
     Around,
+    // The other scopes in which they make objects.
+    Parents,
     // The other objects that they name.
     Others,
 }
@@ -390,6 +393,72 @@ fn push_method(
     }
 }
 
+// Returns a name that is more than a segment.
+fn as_path(name: &NameString) -> Option<&NameString>
+    ensures { option_map (λ name. name.now) result ≡ as_path name.now }
+{
+    if name.as_bytes().len() == 4 {
+        None
+    } else {
+        Some(name)
+    }
+}
+
+// Returns the path by which a term makes an object in another scope than its own.
+fn path_made<'a>(kind: Kind<'a>) -> Option<&'a NameString>
+    ensures { option_map (λ name. name.now) result ≡ path_made (head_of kind.entry) }
+{
+    match kind {
+        Kind::Name(name)
+        | Kind::Device(name)
+        | Kind::Method(name, ..)
+        | Kind::LeveledMethod(name, ..)
+        | Kind::Mutex(name, _)
+        | Kind::OpRegion(name, _)
+        | Kind::PowerResource(name, ..)
+        | Kind::Processor(name, ..)
+        | Kind::ThermalZone(name) => as_path(name),
+        _ => None,
+    }
+}
+
+// Adds the External statement of a scope in which an object is made, if it isn't known.
+fn push_parent(
+    alloc: Global,
+    scope: &[u8],
+    name: &NameString,
+    known: &mut Paths,
+    text: &mut String,
+) -> Result<(), AllocError>
+    ensures { OnOk result (AreAdded (made_by_path scope.now (Some name.now)) known.old known.new
+        (string_bytes text.old) (string_bytes text.new)) }
+{
+    let path = path_in(alloc, scope, name)?;
+    let around = parent(&path);
+    if known.has(around, &[]) {
+        return Ok(());
+    }
+    let around = Vec::from_slice(alloc, around)?;
+    push_absent(alloc, around, 6, 0, known, text)
+}
+
+// Adds the External statement of the other scope in which a term makes an object.
+fn push_parents(
+    alloc: Global,
+    scope: &[u8],
+    kind: Kind<'_>,
+    known: &mut Paths,
+    text: &mut String,
+) -> Result<(), AllocError>
+    ensures { OnOk result (AreAdded (parent_items scope.now (head_of kind.entry)) known.old known.new
+        (string_bytes text.old) (string_bytes text.new)) }
+{
+    match path_made(kind) {
+        Some(name) => push_parent(alloc, scope, name, known, text),
+        None => Ok(()),
+    }
+}
+
 // Adds External statements for the other objects that a term names.
 fn push_other(
     alloc: Global,
@@ -439,6 +508,7 @@ fn push_own_items(
         Pass::Scopes => push_scope(alloc, scope, kind, known, text)?,
         Pass::Methods => push_method(alloc, place, scope, kind, count, known, text)?,
         Pass::Around => make_external(alloc, scope, kind, known)?,
+        Pass::Parents => push_parents(alloc, scope, kind, known, text)?,
         Pass::Others => push_other(alloc, scope, kind, known, text)?,
     }
     Ok(())
@@ -542,7 +612,22 @@ fn is_field_found(
     Ok(true)
 }
 
-// Returns whether the names that a term uses find objects.
+// Returns whether the other scope is known in which a term makes an object.
+fn is_parent_found(
+    alloc: Global,
+    known: &Paths,
+    scope: &[u8],
+    kind: Kind<'_>,
+) -> Result<bool, AllocError>
+    ensures { IfOk result (λ found. found ≡ are_found known.now (parent_items scope.now (head_of kind.entry))) }
+{
+    match path_made(kind) {
+        Some(name) => Ok(known.has(parent(&path_in(alloc, scope, name)?), &[])),
+        None => Ok(true),
+    }
+}
+
+// Returns whether the names that a term uses find objects, and the scope in which it makes one.
 fn own_found(alloc: Global, known: &Paths, scope: &[u8], kind: Kind<'_>) -> Result<bool, AllocError>
     ensures { IfOk result (λ found. found ≡ own_found known.now scope.now (head_of kind.entry)) }
 {
@@ -560,7 +645,7 @@ fn own_found(alloc: Global, known: &Paths, scope: &[u8], kind: Kind<'_>) -> Resu
             }
             is_field_found(alloc, known, scope, second, entries)
         }
-        _ => Ok(true),
+        _ => is_parent_found(alloc, known, scope, kind),
     }
 }
 
@@ -598,7 +683,7 @@ fn are_found_in(alloc: Global, known: &Paths, scope: &[u8], term: &Term) -> Resu
 
 // ---- blocks
 
-// Returns whether a term names an object that something else makes.
+// Returns whether a term names an object that something else makes, or makes one in another scope.
 fn uses_name(kind: Kind<'_>) -> bool
     ensures { result ≡ uses_name (head_of kind.entry) }
 {
@@ -610,11 +695,11 @@ fn uses_name(kind: Kind<'_>) -> bool
         | Kind::BankField(..)
         | Kind::Acquire(..)
         | Kind::Release(_) => true,
-        _ => false,
+        _ => path_made(kind).is_some(),
     }
 }
 
-// Returns whether one of these terms, or a term inside them, names an object that something else makes.
+// Returns whether one of these terms, or a term inside them, does so.
 #[cycle(uses)]
 fn use_names(terms: &[Term]) -> bool
     ensures { result ≡ any uses_name (views terms.now) }
@@ -674,7 +759,8 @@ fn push_pass(
     Ok(())
 }
 
-/// Adds an External statement for each name of a block for which it has no object.
+/// Adds an External statement for each name of a block for which it has no object, and for each scope in which it makes an object
+/// but which it doesn't know.
 pub fn push_absents(alloc: Global, terms: &[Term], text: &mut String) -> Result<(), AllocError>
     ensures { OnOk result (string_bytes text.new ≡ string_bytes text.old ++ absent_text (views terms.now)) }
 {
@@ -689,6 +775,7 @@ pub fn push_absents(alloc: Global, terms: &[Term], text: &mut String) -> Result<
     push_pass(alloc, Pass::Scopes, terms, &mut known, text)?;
     push_pass(alloc, Pass::Methods, terms, &mut known, text)?;
     push_pass(alloc, Pass::Around, terms, &mut known, text)?;
+    push_pass(alloc, Pass::Parents, terms, &mut known, text)?;
     push_pass(alloc, Pass::Others, terms, &mut known, text)?;
     Ok(())
 }

@@ -12,4 +12,4 @@ returns-then-branch c =
 
 pub returns : goal.returns
 returns c =
-    all_added (views c.args.terms.now) _ _ _ _ _ _ _ _ _ _ _ _ c.in_ok-known.ensures c.in_ok-push_pass.ensures c.in_ok-push_pass-2.ensures c.in_ok-push_pass-3.ensures c.in_ok-push_pass-4.ensures c.in_ok-push_pass-5.ensures
+    all_added (views c.args.terms.now) _ _ _ _ _ _ _ _ _ _ _ _ _ _ c.in_ok-known.ensures c.in_ok-push_pass.ensures c.in_ok-push_pass-2.ensures c.in_ok-push_pass-3.ensures c.in_ok-push_pass-4.ensures c.in_ok-push_pass-5.ensures c.in_ok-push_pass-6.ensures
