@@ -174,12 +174,32 @@ pub fn name_made<'a>(node: &Node<'a>) -> Option<&'a [u8]> {
     }
 }
 
+// The segment before the last of a name, if it has one.
+fn outer_segment(word: &[u8]) -> &[u8] {
+    let end = word.len().saturating_sub(last(word).len());
+    match word.get(..end) {
+        Some([around @ .., b'.']) => last(around),
+        _ => &[],
+    }
+}
+
+// The place of the name by which a node makes an object in a scope with this last segment.
+fn made_in(from: usize, segment: &[u8], node: &Node<'_>) -> Option<usize> {
+    let name = node_made(node)?;
+    if from <= name.at && outer_segment(name.word) == segment {
+        Some(name.at)
+    } else {
+        None
+    }
+}
+
 /// Whether the braces of a node have the entries of a field, whose names are made there.
 pub fn has_entries(node: &Node<'_>) -> bool {
     is_among(node.word, &[b"BankField", b"Field", b"IndexField"])
 }
 
-/// The place of the first use, from a place on, of an object with this last segment. Lists are looked through to a depth.
+/// The place of the first use, from a place on, of an object with this last segment. An object that is made by a path uses the
+/// scope in which it is made. Lists are looked through to a depth.
 #[cycle(uses)]
 pub fn first_use(depth: usize, from: usize, segment: &[u8], nodes: &[Node<'_>]) -> Option<usize> {
     let depth = depth.checked_sub(1)?;
@@ -196,6 +216,9 @@ pub fn first_use(depth: usize, from: usize, segment: &[u8], nodes: &[Node<'_>]) 
 fn use_in(depth: usize, from: usize, segment: &[u8], node: &Node<'_>) -> Option<usize> {
     if from <= node.at && is_name(node.word) && last(node.word) == segment {
         return Some(node.at);
+    }
+    if let Some(at) = made_in(from, segment, node) {
+        return Some(at);
     }
     if let Some(at) = first_use(depth, from, segment, used(node)) {
         return Some(at);
