@@ -52,7 +52,7 @@ for show; - is standard input.
 
 disassemble prints a definition block as ASL, the language that compilers take. The first FILE is its table, or -
 for standard input. The block may call the methods of those in further FILEs, as an SSDT calls those of the DSDT. Of
-these only the terms that can be read count, and show says of each block which can't.
+the further FILEs only the terms that can be read count. show says which terms can't be read.
 The text has an External statement for each name for which the block has no object.
 Terms that can't be read are a comment with their bytes, and a line says why.
 
@@ -63,7 +63,7 @@ with its path from the root.
 
 image finds the RSDP in a file with the bytes of a guest's memory, follows it to all tables, and checks them.
 It prints the address, signature, length and revision of each. BASE is the address of the first byte in
-hexadecimal; it is 0 if there is none. If no RSDP points to an XSDT, one of revision 0 or 1 counts, which points to an RSDT.
+hexadecimal; it is 0 if it is left out. If no RSDP points to an XSDT, one of revision 0 or 1 counts, which points to an RSDT.
 image --json prints an array of JSON with an object for each table. As FILE, - is standard input.
 
 make reads a text that show prints, changed or written by hand, and writes the bytes of its table to FILE. Question
@@ -72,9 +72,10 @@ stay as they are. A line says which length of the table, count or checksum would
 with --force it is. A wrong length of a structure is a fault. As TEXT, - is standard input, and as FILE, standard
 output. TEXT and FILE may not be the same file. A regular FILE is replaced as a whole by FILE.part, which may not be
 there before. A device, a pipe or a link stays what it is, and takes the bytes. Of a text of ASL, as show and
-disassemble print it, changed or written by hand in the same form, make writes the definition block. Its ASL is this
-text, and else a line says which word of the text would be another. What compilers refuse in it, such as a name that is
-twice in a scope, has a line, too, and the block is written with --force only.
+disassemble print it, changed or written by hand in the same form, make writes the definition block. The ASL of the
+block has to be this text, but for white space, comments and the like. If it isn't, a line says which word of the text
+is wrong. What compilers refuse in it, such as a name that is twice in a scope, has a line, too, and the block is
+written with --force only.
 
 repair writes the table in FILE to OUT with the length and the checksums that it should have, as after a change with an
 editor of bytes; all other bytes stay as they are. The length is the number of bytes in FILE. A line says what each of them
@@ -111,11 +112,11 @@ they aren't there. A file that is there isn't replaced, and no further file is w
 
 tree prints the structures of a table as a tree, each with its offset, its type and its size. Below a structure, further
 in, are those whose offsets it has: the parent and the caches of a processor (PPTT), the output of an ID mapping (IORT,
-RIMT), the node behind which an endpoint is (VIOT). One that is shown above has a line that says so. Below a structure
-are also the numbers in it that another table defines, such as the proximity domains of a HMAT. tree FILE@BASE
-prints the tables of an image, each with its address: below the RSDP the XSDT, below this the tables that it lists, and
-below the FADT the FACS and the DSDT. tree --dot prints them as a graph for graphviz. A line on standard error says if
-not all structures can be found.
+RIMT), the node behind which an endpoint is (VIOT). A structure that was shown before has a line with the word above.
+Below a structure are also the numbers in it that another table defines, such as the proximity domains of a HMAT. tree
+FILE@BASE prints the tables of an image, each with its address: below the RSDP the XSDT, below this the tables that it
+lists, and below the FADT the FACS and the DSDT. tree --dot prints them as a graph for graphviz. A line on standard
+error says if not all structures can be found.
 
 The status is 0 if everything is shown or written, 1 if something isn't a table, an image or a text of a table,
 its structures, terms or numbers are wrong, a table breaks a rule, two tables differ, tables have no image, no table has
